@@ -86,7 +86,7 @@ fn searched<W: Sink, P: SearchProgress>(
     let Ok(journeys) = AskedJourneys::new(alloc, diagram, reach.by_journeys) else {
         return Err(SearchFault::Memory);
     };
-    let mut frames = Frames::new();
+    let mut frames = Frames::new(alloc);
     let mut machine = Machine {
         open: 0,
         recorder: Recorder::new(alloc, judge, reach.max_nodes, journeys),

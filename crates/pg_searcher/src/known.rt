@@ -10,8 +10,11 @@ use pg_prices::{
 use pg_travel::Prices;
 use std::alloc::{AllocError, Global};
 
-// How many groups of men and rights of a colour are remembered at most.
-const MOST_REMEMBERED: usize = 2_097_152;
+// How many groups of men and rights of a colour are remembered at most: 16 MB, and as many of price lists.
+const MOST_REMEMBERED: usize = 524_288;
+
+// How many groups of pawns of a colour are remembered at most: 4 MB, and as many of price lists.
+const MOST_PAWNS: usize = 131_072;
 
 // What stands for needs that are not known.
 pub(crate) const MISSING: Needs = Needs {
@@ -54,7 +57,7 @@ impl Known {
         Ok(Known {
             rows: Rows::new(alloc, color, diagram)?,
             memory: Memory::new(alloc, MOST_REMEMBERED),
-            pawns: Memory::new(alloc, MOST_REMEMBERED),
+            pawns: Memory::new(alloc, MOST_PAWNS),
             goal_men: board.squares_of_color(color).len(),
             goal_pawns: count_pawns(&board, color),
         })

@@ -5,7 +5,6 @@ use crate::fault::SearchFault;
 use crate::judge::{AskedJourneys, CutBy, Judge};
 use crate::outlook::Outlook;
 use crate::sides::Sides;
-use arrayvec::ArrayVec;
 use pg_certificate::format::MOST_NAMED;
 use pg_certificate::{Record, RecordWriter, Sink, WriteFault};
 use pg_fen::Diagram;
@@ -33,18 +32,6 @@ pub(crate) struct Frame {
     pub(crate) key: u64,
     pub(crate) named: bool,
     pub(crate) fertile: bool,
-}
-
-impl Default for Frame {
-    fn default() -> Frame {
-        Frame {
-            moves: LegalMoves::new(&Position::array()),
-            outlook: Outlook::of(&Sides::none(), 0),
-            key: 0,
-            named: false,
-            fertile: false,
-        }
-    }
 }
 
 // A node that opens: its position, what is known of both colours, its key, and whether it is named.
@@ -211,17 +198,19 @@ pub(crate) struct Findings {
 }
 
 // The frames of open nodes, the topmost last, and behind them those of nodes that have closed: a frame stays where it
-// is until the next node takes its place, since to take it off the list would move it, and put a frame of nothing
-// there.
-pub(crate) type Frames = ArrayVec<Frame, 128>;
+// is until the next node takes its place, since to take it off the list would move it. They are many bytes, so they do
+// not stand on the stack.
+pub(crate) type Frames = Vec<Frame>;
 
 // Puts the frame of a node in the place behind those of so many open ones.
-pub(crate) fn put_frame(frames: &mut Frames, open: u8, frame: Frame) {
-    match frames.get_mut(usize::from(open)) {
-        Some(place) => *place = frame,
-        None => {
-            let _ = frames.try_push(frame);
-        }
+pub(crate) fn put_frame(frames: &mut Frames, open: u8, frame: Frame) -> Result<(), SearchFault> {
+    if let Some(place) = frames.get_mut(usize::from(open)) {
+        *place = frame;
+        return Ok(());
+    }
+    match frames.push(frame) {
+        Ok(()) => Ok(()),
+        Err(_) => Err(SearchFault::Memory),
     }
 }
 
@@ -233,8 +222,8 @@ pub(crate) fn open_frames(frames: &Frames, open: u8) -> &[Frame] {
     }
 }
 
-// How many nodes are open, what writes the records of nodes, and what was found. The frames stand apart: here they
-// would be moved with it, and each move of so large a list takes room of its own on the stack.
+// How many nodes are open, what writes the records of nodes, and what was found. The frames stand apart: one of them and
+// the machine change together.
 #[derive(Drop)]
 pub(crate) struct Machine {
     pub(crate) open: u8,

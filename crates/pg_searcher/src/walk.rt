@@ -299,7 +299,7 @@ fn play_until_opened<W: Sink>(
         Ok(true) => {
             let recorder = &machine.recorder;
             let frame = frame_of(&recorder.judge, &recorder.opened, left);
-            put_frame(frames, machine.open, frame);
+            put_frame(frames, machine.open, frame)?;
             machine.open += 1;
             Ok(())
         }
@@ -403,7 +403,7 @@ pub(crate) fn tree_of<W: Sink, P: SearchProgress>(
     }
     match enter_root(question, &mut machine.recorder, sink) {
         Ok(Some(root)) => {
-            put_frame(frames, 0, root);
+            put_frame(frames, 0, root)?;
             machine.open = 1;
         }
         Ok(None) => return Ok(()),
