@@ -13,7 +13,7 @@ use either::{Either, Left, Right};
 use std::alloc::Global;
 use std::fs;
 use std::fs::File;
-use std::io::{Input, Read};
+use std::io::{ErrorKind, Input, Read};
 use std::rt::Files;
 
 /// The longest list that is read: 16,777,216 bytes.
@@ -62,6 +62,15 @@ pub fn open_plain<R: Files + AllocGlobal>(rt: &R, name: &str) -> Result<R::File,
         Ok(found) if found.is_file() => open_path(rt, path),
         Ok(_) => Err(FileFault::Open(Obstacle::NotPlain)),
         Err(fault) => Err(FileFault::Open(Obstacle::of(&fault))),
+    }
+}
+
+/// Whether nothing stands at this path, not even a link that leads to nothing. No clause can say so, since none says
+/// what a path leads to.
+pub fn is_missing<R: Files>(rt: &R, path: &str) -> bool {
+    match fs::symlink_metadata(rt, path) {
+        Ok(_) => false,
+        Err(fault) => fault.kind() == ErrorKind::NotFound,
     }
 }
 

@@ -6,7 +6,7 @@ ghost use Rattle.std.specs.Fs.{permissions_mode};
 ghost use Rattle.std.specs.Io.{StartsWith};
 ghost use Rattle.pg_files.specs.Drafts.{HasPlainRights, IsNew, name_of_draft, place_of_draft};
 ghost use Rattle.pg_files.specs.Paths.{HasNoSlash, IsDraftPath, IsFolder};
-ghost use Rattle.pg_files.specs.Faults.{IsNotBegun, IsNotBegunHere, IsNotPut};
+ghost use Rattle.pg_files.specs.Faults.{IsNotBegun, IsNotBegunHere, IsNotPut, IsOfOpening};
 
 use crate::faults::{FileFault, Obstacle};
 use crate::names::{is_input, path_of};
@@ -342,6 +342,19 @@ pub fn begin_here<R: Files + AllocGlobal>(rt: &R, path: &str) -> Result<Draft<R:
 }
 
 impl<F: OpenFile + Drop> Draft<F> {
+    /// Another handle of the file: what is written to the one is read from the other, and both are at one place in it.
+    ///
+    /// # Errors
+    /// `Open` with what the system says.
+    pub fn handle(&self) -> Result<F, FileFault>
+        ensures { IfErr result IsOfOpening }
+    {
+        match self.file.try_clone() {
+            Ok(file) => Ok(file),
+            Err(fault) => Err(FileFault::Open(Obstacle::of(&fault))),
+        }
+    }
+
     /// Puts the file in its place. Who may read, write and run it is as it was of the one that stood there; its
     /// owner is who runs the program, and it has no setuid, setgid or sticky bit.
     ///

@@ -47,6 +47,8 @@ impl<W> Limited<W> {
 impl<W: Write> Write for Limited<W> {
     ghost contents = { λ s. W.contents s.inner };
 
+    // It comes once in some thousand bytes: inlined, it would keep the writing of a single byte from being so.
+    #[inline(never)]
     fn write(&mut self, bytes: &[u8]) -> io::Result<usize>
         ensures bound { WritesAtMost result bytes.now }
         ensures bytes { WriteAppends (W.contents (writer_of self.old)) (W.contents (writer_of self.new)) result
