@@ -1,5 +1,5 @@
 -- The parts of a row. Leads to the contract of `write_row`.
-use Rattle.std.proofs.Common.{◌≡◌, ℕ, ◌+◌, ◌≤◌, List, [], ◌∷◌, ◌++◌, Bool, Option, Some, length, refl, sym, ap, subst, arith, ◌∙◌}
+use Rattle.std.proofs.Common.{◌≡◌, ℕ, ◌+◌, ◌≤◌, List, [], ◌∷◌, ◌++◌, Option, Some, length, refl, sym, ap, subst, arith, ◌∙◌}
 use Rattle.std.specs.Prelude.{codes, decimal, slice_get, unwrap_or}
 use Rattle.std.specs.Io.KnownBytes.{Appends}
 use Rattle.std.proofs.KnownBytes.{Appends-trans}
@@ -16,6 +16,7 @@ use Rattle.pg_judge.specs.Ruling.{IsFinding, IsGiven}
 use Rattle.pg_judge.specs.Rows.{ArePair, AreShown, IsDetail, IsEvidenceText, IsNth, IsRowOf, IsTold, IsWritable, IsWritten, below_text, cooks_text, head_text}
 use Rattle.pg_judge.specs.declared.entry.Entry.{Entry}
 use Rattle.pg_judge.specs.declared.given.Given.{Given}
+use Rattle.pg_judge.specs.declared.old.Old.{Old}
 use Rattle.pg_judge.specs.declared.ruling.Evidence.{Evidence}
 use Rattle.pg_judge.specs.declared.ruling.Evidence.TheVariants.{Several, Another, Shorter}
 use Rattle.pg_judge.specs.declared.ruling.Finding.{Finding}
@@ -95,12 +96,12 @@ written d n (NotSound e) h = evidence_written d n e h
 written d n (NotSettled known) h = tt
 
 -- ---- a row
-pub row : (entry : Entry) (ruling : Ruling) (refused : Bool) (given : Given) (a b c e : Option (List ℕ))
+pub row : (entry : Entry) (ruling : Ruling) (old : Old) (given : Given) (a b c e : Option (List ℕ))
     → IsGiven entry.problem.diagram entry.problem.length entry.games given
-    → Appends a b (head_text entry.name.now entry.problem.length given ruling refused) → AddsSome (IsDetail ruling.finding) b c
-    → Appends c e (codes "\n") → AddsSome (IsRowOf entry ruling refused) a e
-row entry ruling refused given a b c e is first (detail, tells, second) last =
-    let head = head_text entry.name.now entry.problem.length given ruling refused in (
+    → Appends a b (head_text entry.name.now entry.problem.length given ruling old) → AddsSome (IsDetail ruling.finding) b c
+    → Appends c e (codes "\n") → AddsSome (IsRowOf entry ruling old) a e
+row entry ruling old given a b c e is first (detail, tells, second) last =
+    let head = head_text entry.name.now entry.problem.length given ruling old in (
       head ++ (detail ++ codes "\n"),
       (given, is, record { detail = detail; is_detail = tells; is = refl }),
       Appends-trans a b e head (detail ++ codes "\n") first (Appends-trans b c e detail (codes "\n") second last),

@@ -1,3 +1,4 @@
 pub mod Entries
+pub mod Old
 pub mod Ruling
 pub mod Rows

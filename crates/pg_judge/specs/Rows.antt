@@ -1,6 +1,6 @@
 -- The row of a problem: its name, its length, what is found, what the author's game is, by what it was found, and the
 -- games, parted by tabs.
-use Rattle.std.specs.Prelude.{◌≡◌, ℕ, Bool, cond, eqb, Option, Some, None, List, [], ◌∷◌, ◌++◌, length, codes, slice_get}
+use Rattle.std.specs.Prelude.{◌≡◌, ℕ, cond, eqb, Option, Some, None, List, [], ◌∷◌, ◌++◌, length, codes, slice_get}
 use Rattle.std.specs.Fmt.{decimal}
 use Rattle.pg_position.specs.declared.moves.Move.{Move}
 use Rattle.pg_fen.specs.Lengths.{length_text}
@@ -12,6 +12,8 @@ use Rattle.pg_judge.specs.Ruling.{IsGiven}
 use Rattle.pg_judge.specs.declared.entry.Entry.{Entry}
 use Rattle.pg_judge.specs.declared.given.Given.{Given}
 use Rattle.pg_judge.specs.declared.given.Given.TheVariants.{NoGame, Solves, Fails}
+use Rattle.pg_judge.specs.declared.old.Old.{Old}
+use Rattle.pg_judge.specs.declared.old.Old.TheVariants as stood
 use Rattle.pg_judge.specs.declared.progress.Effort.{Effort}
 use Rattle.pg_judge.specs.declared.progress.Effort.TheVariants as effort
 use Rattle.pg_judge.specs.declared.ruling.Evidence.{Evidence}
@@ -20,7 +22,7 @@ use Rattle.pg_judge.specs.declared.ruling.Finding.{Finding}
 use Rattle.pg_judge.specs.declared.ruling.Finding.TheVariants.{Settled, NotSound, NotSettled}
 use Rattle.pg_judge.specs.declared.ruling.Known.{Known}
 use Rattle.pg_judge.specs.declared.ruling.Means.{Means}
-use Rattle.pg_judge.specs.declared.ruling.Means.TheVariants.{Certificate, Search}
+use Rattle.pg_judge.specs.declared.ruling.Means.TheVariants.{Certificate, Unread, Search}
 use Rattle.pg_judge.specs.declared.ruling.Reason.{Reason}
 use Rattle.pg_judge.specs.declared.ruling.Reason.TheVariants as reason
 use Rattle.pg_judge.specs.declared.ruling.Ruling.{Ruling}
@@ -47,17 +49,21 @@ effort_text effort.Journeys = codes "journeys, "
 -- by what it was found
 abbrev pub means_text : Means → List ℕ
 means_text (Certificate records) = codes "certificate, " ++ (decimal records ++ codes " records")
+means_text Unread = codes "certificate, time is over"
 means_text (Search effort nodes) = effort_text effort ++ (decimal nodes ++ codes " nodes")
 
--- that a certificate which stood there was refused
-abbrev pub refused_text : Bool → List ℕ
-refused_text refused = cond refused (codes ", old certificate refused") []
+-- what is said of a certificate that stood there and did not settle the problem
+abbrev pub old_text : Old → List ℕ
+old_text stood.Absent = []
+old_text stood.Refused = codes ", old certificate refused"
+old_text stood.OfAnother = codes ", certificate of another problem kept"
 
 -- why nothing is settled
 abbrev pub reason_text : Reason → List ℕ
 reason_text reason.Nodes = codes "limit reached"
 reason_text reason.Memory = codes "out of memory"
 reason_text reason.Scratch = codes "certificate not written"
+reason_text reason.Bytes = codes "certificate limit reached"
 reason_text reason.Refused = codes "certificate refused"
 
 -- ---- games
@@ -115,23 +121,23 @@ IsDetail (NotSound evidence) text = IsEvidenceText evidence text
 IsDetail (NotSettled known) text = text ≡ known_text known
 
 -- the columns before the last, each with a tab behind it: of a problem of this name and length in plies, whose author's
--- game is so, and of what is found, where a certificate that stood there was refused or not
-abbrev pub head_text : List ℕ → ℕ → Given → Ruling → Bool → List ℕ
-head_text name plies given ruling refused = (name ++ (codes "\t" ++ (length_text plies ++ codes "\t")))
+-- game is so, of what is found, and of a certificate that stood there
+abbrev pub head_text : List ℕ → ℕ → Given → Ruling → Old → List ℕ
+head_text name plies given ruling old = (name ++ (codes "\t" ++ (length_text plies ++ codes "\t")))
     ++ ((finding_text ruling.finding ++ (codes "\t" ++ (given_text given ++ codes "\t")))
-    ++ (means_text ruling.means ++ (refused_text refused ++ codes "\t")))
+    ++ (means_text ruling.means ++ (old_text old ++ codes "\t")))
 
 -- a row: these columns, the last one, and a line feed
-pub record IsRow (name : List ℕ) (plies : ℕ) (given : Given) (ruling : Ruling) (refused : Bool) (text : List ℕ) : Type 0 where
+pub record IsRow (name : List ℕ) (plies : ℕ) (given : Given) (ruling : Ruling) (old : Old) (text : List ℕ) : Type 0 where
   pub detail : List ℕ
   pub is_detail : IsDetail ruling.finding detail
-  pub is : text ≡ head_text name plies given ruling refused ++ (detail ++ codes "\n")
+  pub is : text ≡ head_text name plies given ruling old ++ (detail ++ codes "\n")
 
--- the row of a problem, of what is found and by what, and of whether a certificate was refused
-abbrev pub IsRowOf : Entry → Ruling → Bool → List ℕ → Type 0
-IsRowOf entry ruling refused text = (given : Given)
+-- the row of a problem, of what is found and by what, and of a certificate that stood there
+abbrev pub IsRowOf : Entry → Ruling → Old → List ℕ → Type 0
+IsRowOf entry ruling old text = (given : Given)
     × IsGiven entry.problem.diagram entry.problem.length entry.games given
-    × IsRow entry.name.now entry.problem.length given ruling refused text
+    × IsRow entry.name.now entry.problem.length given ruling old text
 
 -- ---- what is written
 -- each game that is told is one from the initial array

@@ -1,5 +1,5 @@
 -- What a ruling on a problem says of it, and what its games are.
-use Rattle.std.specs.Prelude.{◌≡◌, ◌≢◌, ◌⊎◌, ℕ, ◌<◌, ◌≤◌, List, [], ◌∷◌, length}
+use Rattle.std.specs.Prelude.{◌≡◌, ◌≢◌, ◌⊎◌, ℕ, ◌<◌, ◌≤◌, None, List, [], ◌∷◌, length}
 use Rattle.pg_board.specs.Placement.{Placement}
 use Rattle.pg_position.specs.declared.moves.Move.{Move}
 use Rattle.pg_texts.specs.Report.{IsVerdict}
@@ -16,6 +16,9 @@ use Rattle.pg_judge.specs.declared.given.Given.{Given}
 use Rattle.pg_judge.specs.declared.given.Given.TheVariants.{NoGame, Solves, Fails}
 use Rattle.pg_judge.specs.declared.ruling.Finding.{Finding}
 use Rattle.pg_judge.specs.declared.ruling.Finding.TheVariants.{Settled, NotSound, NotSettled}
+use Rattle.pg_judge.specs.declared.ruling.Means.TheVariants.{Unread}
+use Rattle.pg_judge.specs.declared.ruling.Reason.TheVariants.{Nodes}
+use Rattle.pg_judge.specs.declared.ruling.Ruling.{Ruling}
 
 -- what shows that a problem is not sound: two solutions or more, or one beside the author's, or a shorter game
 abbrev pub IsEvidence : Placement → ℕ → Evidence → Type 0
@@ -29,6 +32,13 @@ abbrev pub IsFinding : Placement → ℕ → Finding → Type 0
 IsFinding d n (Settled verdict games) = IsExactAnswer d n games × IsVerdict games verdict
 IsFinding d n (NotSound evidence) = IsUnsound d n × IsEvidence d n evidence
 IsFinding d n (NotSettled known) = Unit {0}
+
+-- what is found where the time was over before a certificate that stands there was read to its end: nothing
+abbrev pub unread : Ruling
+unread = record {
+  finding = NotSettled (record { games = 0; below = None; foreign = None; reason = Nodes });
+  means = Unread;
+}
 
 -- it is said that the problem is sound
 abbrev pub IsSaidSound : Finding → Type 0

@@ -1,8 +1,8 @@
 //! A certificate that stands there already.
-ghost use Rattle.std.specs.Prelude.{IfOk};
-ghost use Rattle.pg_judge.specs.Ruling.{IsFinding};
+ghost use Rattle.std.specs.Prelude.{◌≡◌, IfOk};
+ghost use Rattle.pg_judge.specs.Ruling.{IsFinding, unread};
 
-use crate::ruling::{Finding, Means, Ruling};
+use crate::ruling::{Finding, Known, Means, Reason, Ruling};
 use crate::searching::verdict_on;
 use pg_captures::Bound;
 use pg_certificate::Source;
@@ -41,5 +41,20 @@ pub fn recheck<R: Source>(
             })
         }
         Err(fault) => Err(fault),
+    }
+}
+
+/// What is found where the time was over before a certificate that stands there was read to its end: nothing.
+pub fn time_is_over() -> Ruling
+    ensures { result ≡ unread }
+{
+    Ruling {
+        finding: Finding::NotSettled(Known {
+            games: 0,
+            below: None,
+            foreign: None,
+            reason: Reason::Nodes,
+        }),
+        means: Means::Unread,
     }
 }

@@ -8,10 +8,11 @@ ghost use Rattle.pg_cooks.specs.Cooks.{foreign_text};
 ghost use Rattle.pg_judge.specs.Ruling.{IsFinding};
 ghost use Rattle.pg_judge.specs.Rows.{ArePair, AreShown, IsDetail, IsEvidenceText, IsNth, IsRowOf, IsTold, IsWritable};
 ghost use Rattle.pg_judge.specs.Rows.{IsWritten, below_text, cooks_text, effort_text, finding_text, given_text};
-ghost use Rattle.pg_judge.specs.Rows.{head_text, known_text, means_text, reason_text, refused_text};
+ghost use Rattle.pg_judge.specs.Rows.{head_text, known_text, means_text, reason_text, old_text};
 
 use crate::entry::Entry;
 use crate::given::{Given, given_to};
+use crate::old::Old;
 use crate::progress::Effort;
 use crate::ruling::{Evidence, Finding, Known, Means, Reason, Ruling};
 use pg_certificate::{Refused, Sink, WriteFault};
@@ -73,6 +74,7 @@ fn reason_words(reason: Reason) -> &'static str
         Reason::Nodes => "limit reached",
         Reason::Memory => "out of memory",
         Reason::Scratch => "certificate not written",
+        Reason::Bytes => "certificate limit reached",
         Reason::Refused => "certificate refused",
     }
 }
@@ -97,14 +99,14 @@ fn foreign_words(n: u8) -> &'static str
     }
 }
 
-// The words for a certificate that was refused, if one was.
-fn refused_words(refused: bool) -> &'static str
-    ensures { result.now ≡ refused_text refused }
+// The words for a certificate that stood there and did not settle the problem.
+fn old_words(old: Old) -> &'static str
+    ensures { result.now ≡ old_text old }
 {
-    if refused {
-        ", old certificate refused"
-    } else {
-        ""
+    match old {
+        Old::Absent => "",
+        Old::Refused => ", old certificate refused",
+        Old::OfAnother => ", certificate of another problem kept",
     }
 }
 
@@ -126,6 +128,7 @@ fn write_means<W: Sink>(means: Means, out: &mut W) -> Result<(), Refused>
         Means::Certificate(records) => {
             write_number("certificate, ", records as usize, " records", out)
         }
+        Means::Unread => out.push(b"certificate, time is over"),
         Means::Search(effort, nodes) => {
             write_number(effort_words(effort), nodes as usize, " nodes", out)
         }
@@ -144,12 +147,12 @@ fn write_columns<W: Sink>(first: &str, second: &str, out: &mut W) -> Result<(), 
 }
 
 // Appends by what something was found, with a tab behind it.
-fn write_how<W: Sink>(means: Means, refused: bool, out: &mut W) -> Result<(), Refused>
+fn write_how<W: Sink>(means: Means, old: Old, out: &mut W) -> Result<(), Refused>
     ensures { Pushes W.held W.has_failed
-        (Adds (means_text means ++ (refused_text refused ++ codes "\t"))) out.old out.new result }
+        (Adds (means_text means ++ (old_text old ++ codes "\t"))) out.old out.new result }
 {
     write_means(means, out)?;
-    out.push(refused_words(refused).as_bytes())?;
+    out.push(old_words(old).as_bytes())?;
     out.push(b"\t")
 }
 
@@ -159,15 +162,15 @@ fn write_head<W: Sink>(
     length: Length,
     given: Given,
     ruling: &Ruling,
-    refused: bool,
+    old: Old,
     out: &mut W,
 ) -> Result<(), Refused>
     ensures { Pushes W.held W.has_failed
-        (Adds (head_text name.now length given ruling.now refused)) out.old out.new result }
+        (Adds (head_text name.now length given ruling.now old)) out.old out.new result }
 {
     write_columns(name, length.write().as_str(), out)?;
     write_columns(finding_words(&ruling.finding), given_words(given), out)?;
-    write_how(ruling.means, refused, out)
+    write_how(ruling.means, old, out)
 }
 
 // Appends the movetext of a game from the initial array.
@@ -304,24 +307,25 @@ fn write_detail<W: Sink>(finding: &Finding, out: &mut W) -> Result<(), Refused>
 fn append_row<W: Sink>(
     entry: &Entry<'_>,
     ruling: &Ruling,
-    refused: bool,
+    old: Old,
     out: &mut W,
 ) -> Result<(), Refused>
     requires { IsFinding entry.now.problem.diagram entry.now.problem.length ruling.now.finding }
     ensures { Pushes W.held W.has_failed
-        (AddsSome (IsRowOf entry.now ruling.now refused)) out.old out.new result }
+        (AddsSome (IsRowOf entry.now ruling.now old)) out.old out.new result }
 {
     let length = entry.problem.length;
-    write_head(entry.name, length, given_to(entry), ruling, refused, out)?;
+    write_head(entry.name, length, given_to(entry), ruling, old, out)?;
     write_detail(&ruling.finding, out)?;
     out.push(b"\n")
 }
 
-/// Writes the row of a problem, of what is found of it and by what, and of whether a certificate that stood there was
-/// refused. The columns, with a tab between two of them: the name; the length; `sound`, `cooked`, `no game`, `not
+/// Writes the row of a problem, of what is found of it and by what, and of a certificate that stood there and did not
+/// settle it. The columns, with a tab between two of them: the name; the length; `sound`, `cooked`, `no game`, `not
 /// sound` or `not settled`; `-` where no game is given, `solves` where the author's game does, `fails` where it does
-/// not; by what it was found, as `search, 67036 nodes`, `journeys, 3033 nodes`, `cooks, 211 nodes` or `certificate,
-/// 67037 records`, and `, old certificate refused`; and last the game, of more than one their number and the first two,
+/// not; by what it was found, as `search, 67036 nodes`, `journeys, 3033 nodes`, `cooks, 211 nodes`, `certificate,
+/// 67037 records` or `certificate, time is over`, and `, old certificate refused` or `, certificate of another problem
+/// kept`; and last the game, of more than one their number and the first two,
 /// the other game, the shorter one, or what is known where nothing is settled. Takes no memory.
 ///
 /// # Errors
@@ -329,15 +333,15 @@ fn append_row<W: Sink>(
 pub fn write_row<W: Sink>(
     entry: &Entry<'_>,
     ruling: &Ruling,
-    refused: bool,
+    old: Old,
     out: &mut W,
 ) -> Result<(), WriteFault>
     requires { IsFinding entry.now.problem.diagram entry.now.problem.length ruling.now.finding }
     ensures row { Pushes W.held W.has_failed
-        (AddsSome (IsRowOf entry.now ruling.now refused)) out.old out.new result }
+        (AddsSome (IsRowOf entry.now ruling.now old)) out.old out.new result }
     ensures fault { IfErr result (λ e. e ≡ WriteFault.Write) }
 {
-    match append_row(entry, ruling, refused, out) {
+    match append_row(entry, ruling, old, out) {
         Ok(()) => Ok(()),
         Err(Refused) => Err(WriteFault::Write),
     }

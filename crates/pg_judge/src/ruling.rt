@@ -29,6 +29,8 @@ pub enum Reason {
     Memory,
     /// The certificate could not be written, or read again.
     Scratch,
+    /// The certificate would have more bytes than it may.
+    Bytes,
     /// The check refused what a search had written, which should not be.
     Refused,
 }
@@ -61,6 +63,8 @@ pub enum Finding {
 pub enum Means {
     /// A certificate that stood there, of so many records.
     Certificate(u64),
+    /// A certificate that stood there, which was not read to its end: the time was over before.
+    Unread,
     /// A search, which visited so many nodes as far as it told.
     Search(Effort, u64),
 }

@@ -11,7 +11,7 @@ use crate::shorter::refuted;
 use pg_captures::Bound;
 use pg_certificate::format::MOST_NAMED;
 use pg_certificate::{FromRead, ToWrite};
-use pg_checker::{Problem, check};
+use pg_checker::{Fault, Problem, check};
 use pg_fen::Length;
 use pg_san::Games;
 use pg_searcher::{SearchFault, search_by_journeys, search_watched};
@@ -95,6 +95,15 @@ pub(crate) fn verdict_on(games: &Games) -> Verdict
     }
 }
 
+// Why a check settled nothing: what it could not have, or else the certificate.
+fn reason_of_check(fault: &Fault) -> Reason {
+    match fault {
+        Fault::Memory => Reason::Memory,
+        Fault::Read => Reason::Scratch,
+        _ => Reason::Refused,
+    }
+}
+
 // Checks the certificate that was written, with the games that were found. A search writes at most one record for each
 // node, so the check needs no limit of its own.
 fn confirmed<S: Scratch>(
@@ -121,7 +130,7 @@ fn confirmed<S: Scratch>(
         MOST_NAMED,
     ) {
         Ok(_) => Ok(Finding::Settled(verdict_on(&games), games)),
-        Err(_) => Err(Reason::Refused),
+        Err(fault) => Err(reason_of_check(&fault)),
     }
 }
 
@@ -129,9 +138,29 @@ fn confirmed<S: Scratch>(
 fn reason_of<S: Scratch>(fault: SearchFault, scratch: &S) -> Reason {
     match fault {
         SearchFault::Budget | SearchFault::Shorter(_) | SearchFault::TooManyGames => Reason::Nodes,
-        SearchFault::Write if !scratch.is_memory() => Reason::Scratch,
-        SearchFault::Write | SearchFault::Memory => Reason::Memory,
+        SearchFault::Write => scratch.lack(),
+        SearchFault::Memory => Reason::Memory,
     }
+}
+
+// Searches once more where what was written is not kept whole, in a scratch that has room for it. What is met is known.
+fn search_anew<S: Scratch, P: JudgeProgress>(
+    alloc: Global,
+    problem: &Problem,
+    attempt: Attempt,
+    found: Result<Games, SearchFault>,
+    scratch: &mut S,
+    watch: &mut P,
+) -> Result<Games, SearchFault> {
+    if found.is_err() || scratch.is_whole() {
+        return found;
+    }
+    if scratch.widen().is_err() {
+        return Err(SearchFault::Write);
+    }
+    let mut met = Games::new(alloc);
+    let searched = search_for(alloc, problem, attempt, scratch, &mut met, watch);
+    searched.found
 }
 
 // What a search found, once it is checked or tested; or why it settled nothing.
@@ -178,6 +207,7 @@ pub(crate) fn attempt_once<S: Scratch, P: JudgeProgress>(
 {
     let searched = search_for(alloc, question.problem, attempt, scratch, games, watch);
     let Searched { found, nodes, tree } = searched;
+    let found = search_anew(alloc, question.problem, attempt, found, scratch, watch);
     let means = Means::Search(attempt.effort, nodes);
     match settled(alloc, question, attempt, found, scratch, watch) {
         Ok(finding) => Ok(Ruling { finding, means }),

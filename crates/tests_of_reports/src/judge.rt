@@ -4,6 +4,7 @@ ghost use Rattle.pg_judge.specs.Ruling.{IsFinding};
 mod faults;
 mod growing;
 mod rows;
+mod scratches;
 mod standing;
 
 use crate::shared::{five_bounds, text_of};
@@ -25,12 +26,12 @@ fn row_of<R: Abort + AllocGlobal>(
     rt: &R,
     entry: &Entry<'_>,
     ruling: &Ruling,
-    refused: bool,
+    old: Old,
 ) -> String
     requires { IsFinding entry.now.problem.diagram entry.now.problem.length ruling.now.finding }
 {
     let mut out = ToWrite::new(Vec::new(rt.alloc()));
-    assert!(rt; write_row(entry, ruling, refused, &mut out).is_ok());
+    assert!(rt; write_row(entry, ruling, old, &mut out).is_ok());
     let bytes = out.into_inner();
     text_of(rt, bytes.as_slice())
         .replace(rt.alloc(), '\t', "|")
@@ -38,11 +39,11 @@ fn row_of<R: Abort + AllocGlobal>(
 }
 
 // Judges a problem within limits, and tells a watch.
-fn ruled<R: Abort + AllocGlobal, P: JudgeProgress>(
+fn ruled<R: Abort + AllocGlobal, S: Scratch, P: JudgeProgress>(
     rt: &R,
     line: &str,
     limits: Limits,
-    scratch: &mut Cursor<Vec<u8>>,
+    scratch: &mut S,
     watch: &mut P,
 ) -> String {
     let entry = entry_of(rt, line);
@@ -55,5 +56,5 @@ fn ruled<R: Abort + AllocGlobal, P: JudgeProgress>(
         scratch,
         watch,
     );
-    row_of(rt, &entry, &ruling, false)
+    row_of(rt, &entry, &ruling, Old::Absent)
 }

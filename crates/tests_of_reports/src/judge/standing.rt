@@ -32,7 +32,7 @@ fn check_standing<R: Abort + AllocGlobal>(rt: &R, line: &str, bytes: &[u8], want
         &mut source,
         1000,
     ) {
-        Ok(ruling) => row_of(rt, &entry, &ruling, false),
+        Ok(ruling) => row_of(rt, &entry, &ruling, Old::Absent),
         Err(fault) => format!(in rt.alloc(); "{fault}").expect(rt, "memory"),
     };
     assert_eq!(rt; found.as_str(), wanted);
@@ -62,26 +62,29 @@ fn standing_certificates(rt: HostRuntime) {
     check_standing(&rt, ORDERS, b"", "truncated certificate");
 }
 
-// A row tells that a certificate was refused.
+// What a row tells of a certificate that stood there and did not settle the problem.
+fn check_told<R: Abort + AllocGlobal>(rt: &R, old: Old, wanted: &str) {
+    let entry = entry_of(rt, ORDERS);
+    let row = row_of(rt, &entry, &time_is_over(), old);
+    assert_eq!(rt; row.as_str(), wanted);
+}
+
 #[test]
 fn refused_certificates_are_told(rt: HostRuntime) {
-    let entry = entry_of(&rt, ORDERS);
-    let bytes = certificate(&rt, ORDERS);
-    let bounds = five_bounds(&rt);
-    let mut source = FromRead::new(bytes.as_slice());
-    match recheck(
-        rt.alloc(),
-        &entry.problem,
-        bounds.as_slice(),
-        &mut source,
-        1000,
-    ) {
-        Ok(ruling) => {
-            let row = row_of(&rt, &entry, &ruling, true);
-            let wanted =
-                "orders|1.5|cooked|-|certificate, 63 records, old certificate refused|2 games: 1. d3 e6 2. e3; 1. e3 e6 2. d3\n";
-            assert_eq!(rt; row.as_str(), wanted);
-        }
-        Err(fault) => panic!(rt; "{fault}"),
-    }
+    check_told(
+        &rt,
+        Old::Absent,
+        "orders|1.5|not settled|-|certificate, time is over|0 games met; limit reached\n",
+    );
+    check_told(
+        &rt,
+        Old::Refused,
+        "orders|1.5|not settled|-|certificate, time is over, old certificate refused|0 games met; limit reached\n",
+    );
+    check_told(
+        &rt,
+        Old::OfAnother,
+        "orders|1.5|not settled|-|certificate, time is over, certificate of another problem kept|\
+0 games met; limit reached\n",
+    );
 }

@@ -12,8 +12,8 @@ write_detail-requires g c = written c.args.entry.now.problem.diagram c.args.entr
 pub returns : goal.returns
 returns g c = record {
   text =
-      on_ok c.push.result (Appends (g.W.Sink.held c.write_detail.new.out) (g.W.Sink.held c.push.new.self) (codes "\n")) (AddsSome (IsRowOf c.args.entry.now c.args.ruling.now c.args.refused) (g.W.Sink.held c.args.out.now) (g.W.Sink.held c.push.new.self))
-      (row c.args.entry.now c.args.ruling.now c.args.refused c.given_to.result (g.W.Sink.held c.args.out.now) (g.W.Sink.held c.write_head.new.out) (g.W.Sink.held c.write_detail.new.out) (g.W.Sink.held c.push.new.self)
+      on_ok c.push.result (Appends (g.W.Sink.held c.write_detail.new.out) (g.W.Sink.held c.push.new.self) (codes "\n")) (AddsSome (IsRowOf c.args.entry.now c.args.ruling.now c.args.old) (g.W.Sink.held c.args.out.now) (g.W.Sink.held c.push.new.self))
+      (row c.args.entry.now c.args.ruling.now c.args.old c.given_to.result (g.W.Sink.held c.args.out.now) (g.W.Sink.held c.write_head.new.out) (g.W.Sink.held c.write_detail.new.out) (g.W.Sink.held c.push.new.self)
       c.given_to.ensures c.in_ok-write_head.ensures.text c.in_ok-write_detail.ensures.text)
       c.push.ensures.bytes;
   runs = search rules;

@@ -1,0 +1,140 @@
+//! Scratches that do not keep a certificate whole.
+
+use super::*;
+use arrayvec::ArrayString;
+use pg_certificate::Refused;
+use std::fmt::Write as Append;
+use std::io;
+use std::io::{Error, ErrorKind, Read, Write};
+
+const LIMITS: Limits = Limits {
+    max_nodes: 1000,
+    by_journeys: false,
+};
+
+const PAWNS: &str = "pawns rnbqkbnr/pppp1ppp/8/4p3/4P3/8/PPPP1PPP/RNBQKBNR 1.0";
+
+// What a scratch does with more bytes than it has room for.
+#[derive(Clone, Copy, PartialEq, Eq)]
+enum Room {
+    /// It refuses them.
+    Refuses,
+    /// It drops all, and takes as many as there are where it is asked to.
+    Drops,
+    /// It drops all, and never takes more.
+    Stays,
+}
+
+// A scratch that has room for ten bytes.
+#[derive(Drop)]
+struct Small {
+    bytes: Cursor<Vec<u8>>,
+    room: Room,
+    is_dropped: bool,
+    is_wide: bool,
+}
+
+impl Read for Small {
+    fn read(&mut self, buffer: &mut [u8]) -> io::Result<usize> {
+        self.bytes.read(buffer)
+    }
+}
+
+impl Write for Small {
+    fn write(&mut self, bytes: &[u8]) -> io::Result<usize> {
+        let length = self.bytes.get_ref().len().saturating_add(bytes.len());
+        if self.is_wide || length <= 10 {
+            return self.bytes.write(bytes);
+        }
+        if self.room == Room::Refuses {
+            return Err(Error::from(ErrorKind::FileTooLarge));
+        }
+        self.is_dropped = true;
+        Ok(bytes.len())
+    }
+
+    fn flush(&mut self) -> io::Result<()> {
+        Ok(())
+    }
+}
+
+impl Scratch for Small {
+    fn lack(&self) -> Reason {
+        if self.room == Room::Refuses {
+            Reason::Bytes
+        } else {
+            Reason::Scratch
+        }
+    }
+
+    fn is_whole(&self) -> bool {
+        !self.is_dropped
+    }
+
+    fn widen(&mut self) -> Result<(), Refused> {
+        if self.room != Room::Drops {
+            return Err(Refused);
+        }
+        self.is_wide = true;
+        Ok(())
+    }
+
+    fn clear(&mut self) -> Result<(), Refused> {
+        self.is_dropped = false;
+        self.bytes.clear()
+    }
+
+    fn rewind(&mut self) -> Result<(), Refused> {
+        self.bytes.rewind()
+    }
+}
+
+// Writes down each search that begins.
+#[derive(Drop)]
+struct Begun {
+    said: ArrayString<256>,
+}
+
+impl JudgeProgress for Begun {
+    fn begins(&mut self, effort: Effort, limit: u64) {
+        let _ = write!(self.said, "{effort:?} {limit}, ");
+    }
+}
+
+// The row of a problem that is judged by such a scratch, and which searches are made.
+fn check_small<R: Abort + AllocGlobal>(rt: &R, room: Room, row: &str, searches: &str) {
+    let mut scratch = Small {
+        bytes: Cursor::new(Vec::new(rt.alloc())),
+        room,
+        is_dropped: false,
+        is_wide: false,
+    };
+    let mut watch = Begun {
+        said: ArrayString::new(),
+    };
+    let told = ruled(rt, PAWNS, LIMITS, &mut scratch, &mut watch);
+    assert_eq!(rt; told.as_str(), row);
+    assert_eq!(rt; watch.said.as_str(), searches);
+}
+
+#[test]
+fn small_scratches(rt: HostRuntime) {
+    check_small(
+        &rt,
+        Room::Refuses,
+        "pawns|1.0|not settled|-|search, 21 nodes|1 game met; none below 1.0; certificate limit reached\n",
+        "Search 1000, ",
+    );
+    check_small(
+        &rt,
+        Room::Drops,
+        "pawns|1.0|sound|-|search, 21 nodes|1. e4 e5\n",
+        "Search 1000, Search 1000, ",
+    );
+    check_small(
+        &rt,
+        Room::Stays,
+        "pawns|1.0|not settled|-|search, 21 nodes|1 game met; none below 1.0; certificate not written\n",
+        "Search 1000, ",
+    );
+}
