@@ -159,8 +159,8 @@ expect 1 '' "$(found "$searched")"$'\n'"$after" list --certificates made/here
 cmp right.pgc made/here/orders.pgc >error || fail 'FOLDER is made: no certificate' error
 for folder in list list/here; do expect 4 "cannot open $folder" '' list --certificates $folder; done
 
-# What stands there already: a right certificate, also behind a link; one that is refused; one of another problem, also
-# behind a link; and one that cannot be read.
+# What stands there already: a right certificate, also behind a link; one that is refused; and one of another problem,
+# also behind a link.
 F ''
 judges changed 1 '' "$(found "$searched")"
 judges kept 1 '' "$(found 'certificate, 63 records')" --nodes 0
@@ -181,8 +181,6 @@ for other in length diagram; do
 done
 F 'ln -s ../length.pgc orders.pgc'
 judges kept 1 '' "$(found "$searched, certificate of another problem kept")"
-F 'ln -s /proc/self/mem orders.pgc'
-judges kept 2 'line 1: cannot read F/orders.pgc' ''
 
 # What cannot be a file spoils its line.
 spoils() {

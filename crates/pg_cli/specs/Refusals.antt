@@ -5,7 +5,7 @@ use Rattle.pg_files.specs.declared.faults.FileFault.TheVariants as file
 use Rattle.pg_report.specs.Statuses.{answer_status_of, status_of, search_status_of, show_status_of, moves_status_of, count_status_of, upgrade_status_of}
 use Rattle.pg_cli.specs.declared.refusals.Named.{Named}
 use Rattle.pg_cli.specs.declared.refusals.Refusal.{Refusal}
-use Rattle.pg_cli.specs.declared.refusals.Refusal.TheVariants.{Words, Minutes, Open, Line, NoGame, NotUtf8, Read, Write, Memory, Show, Moves, Count, Search, GaveUp, Upgrade, Check, Answer}
+use Rattle.pg_cli.specs.declared.refusals.Refusal.TheVariants.{Words, Minutes, Open, NoName, Line, NoGame, NotUtf8, Read, Write, Memory, Show, Moves, Count, Search, Full, GaveUp, Upgrade, Check, Answer}
 
 -- 1 where a list or a certificate is refused or a search gave up,
 -- 2 for bad words and texts, 3 for want of memory, 4 for a file
@@ -13,6 +13,7 @@ abbrev pub refusal_status : Refusal → ℕ
 refusal_status Words = 2
 refusal_status Minutes = 2
 refusal_status (Open name obstacle) = 4
+refusal_status (NoName name) = 4
 refusal_status Line = 2
 refusal_status NoGame = 2
 refusal_status NotUtf8 = 2
@@ -23,6 +24,7 @@ refusal_status (Show fault) = show_status_of fault
 refusal_status (Moves fault) = moves_status_of fault
 refusal_status (Count fault) = count_status_of fault
 refusal_status (Search fault) = search_status_of fault
+refusal_status (Full known) = 1
 refusal_status (GaveUp fault known) = search_status_of fault
 refusal_status (Upgrade fault) = upgrade_status_of fault
 refusal_status (Check fault) = status_of fault

@@ -49,7 +49,7 @@ use Rattle.pg_cli.specs.Knowing.{answer_status}
 use Rattle.pg_cli.specs.Words.{spelled, IsSpelled, SpellsBoard}
 use Rattle.pg_cli.specs.declared.refusals.Known.{Known}
 use Rattle.pg_cli.specs.declared.refusals.Refusal.{Refusal}
-use Rattle.pg_cli.specs.declared.refusals.Refusal.TheVariants.{NoGame, NotUtf8, Read, Write, Memory, Line as NoLine, Show, Moves, Count, Search, GaveUp, Upgrade, Check, Answer}
+use Rattle.pg_cli.specs.declared.refusals.Refusal.TheVariants.{NoGame, NotUtf8, Read, Write, Memory, Line as NoLine, Show, Moves, Count, Search, Full, GaveUp, Upgrade, Check, Answer}
 
 -- ---- a position or a diagram
 -- the text spells a position, and the lines of its legal moves are appended
@@ -218,10 +218,11 @@ IsGivenUp n fault = Unit {0}
 abbrev pub AreMet : Placement → ℕ → Known → Type 0
 AreMet d n known = (list : List (List Move)) × AreSolutions d n list × (length_of_list list ≡ known.games)
 
--- a search for games of n plies that end on d has no report: it gave up, with games that it met; or memory or a file was
--- refused; or the games that it found are not listed, or the check of what it wrote does not say yes
+-- a search for games of n plies that end on d has no report: it gave up, or its certificate would be too long, with games
+-- that it met; or memory or a file was refused; or the games that it found are not listed, or the check of what it wrote does not say yes
 abbrev pub IsSearchRefusal : Placement → ℕ → Refusal → Type 0
 IsSearchRefusal d n (GaveUp fault known) = IsGivenUp n fault × AreMet d n known
+IsSearchRefusal d n (Full known) = AreMet d n known
 IsSearchRefusal d n (Search search.Write) = Unit {0}
 IsSearchRefusal d n (Search search.Memory) = Unit {0}
 IsSearchRefusal d n (Check fault) = Unit {0}

@@ -75,6 +75,13 @@ fn tell_known<R: Eprint>(rt: &R, words: &ArgMatches<'_>, fault: &SearchFault, kn
     }
 }
 
+// Says what a search knows whose certificate would be too long, and what to try.
+fn tell_full<R: Eprint>(rt: &R, known: &Known) {
+    tell(rt, &on_limit(known.nodes, known.tree, known.plies));
+    tell(rt, &on_known(known.games));
+    let _ = eprintln!(rt; "pg: more --bytes let it be longer");
+}
+
 // Says what may be wrong with a certificate.
 fn tell_certificate<R: Runtime + AllocGlobal>(rt: &R, words: &ArgMatches<'_>, fault: &Fault) {
     match fault {
@@ -106,6 +113,7 @@ pub(crate) fn advise<R: Runtime + AllocGlobal>(rt: &R, words: &ArgMatches<'_>, r
     match refusal {
         Refusal::Open(_, obstacle) => tell_value(rt, *obstacle),
         Refusal::GaveUp(fault, known) => tell_known(rt, words, fault, known),
+        Refusal::Full(known) => tell_full(rt, known),
         Refusal::NotUtf8 => tell_byte(rt, words),
         Refusal::Check(fault) => tell_check(rt, words, fault),
         Refusal::Answer(AnswerRunFault::Answer(AnswerFault::Check(fault))) => {

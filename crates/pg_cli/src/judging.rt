@@ -3,33 +3,36 @@
 ghost use Rattle.std.specs.Prelude.{◌≡◌, ◌<◌, ℕ, All, IfOk};
 ghost use Rattle.pg_board.specs.Placement.{Placement};
 ghost use Rattle.pg_san.specs.GameText.{lines};
+ghost use Rattle.pg_cli.specs.Judging.{IsStanding};
 ghost use Rattle.pg_judge.specs.Ruling.{IsFinding, IsSound, IsSoundLine};
 
+use crate::bounds::{journeys_to, travel_to};
+use crate::keeping::{Loose, OnDisk};
 use crate::limits::{Reach, reach_of};
 use crate::refusals::{Named, Refusal};
 use crate::screen::Screen;
-use crate::spelling::{say_journeys, text_of};
+use crate::spelling::{say_journeys, say_replace, text_of};
 use clap::ArgMatches;
 use pg_captures::{Bound, Captures, Promotions};
-use pg_certificate::{FromRead, Refused, Sink, ToWrite};
-use pg_checker::Problem;
-use pg_files::{Draft, begin, list, open_plain};
-use pg_journeys::JourneysByMemory;
+use pg_certificate::{Sink, ToWrite};
+use pg_checker::{AnswerFault, Problem};
+use pg_files::{
+    FileFault, FileName, begin_here, is_missing, list, make_folder, open_plain, size_of,
+};
 use pg_judge::{
-    Effort, Entry, EntryFault, Finding, JudgeProgress, Limits, Ruling, Scratch, is_sound,
-    judge as judge_problem, read_entry, recheck, write_row,
+    Effort, Entry, EntryFault, Finding, JudgeProgress, Limits, Old, Ruling, Unsettled, is_sound,
+    judge as judge_problem, read_entry, recheck, time_is_over, unsettled_of, write_row,
 };
 use pg_pawns::PawnFiles;
 use pg_san::{GamesFault, next_line};
-use pg_streams::{Cleared, Deadline, Gathered, JudgeLine, Terminal};
-use pg_travel::{Rows, TravelByRows};
+use pg_streams::{Cleared, Deadline, Gathered, JudgeLine, Passing, Terminal, Until};
+use std::alloc::{AllocError, AllocFailed};
 use std::collections::BTreeSet;
-use std::fmt::Display;
-use std::fs::OpenFile;
-use std::io;
-use std::io::{Cursor, Eprint, Read, Seek, SeekFrom, Write};
+use std::fmt::{Display, Formatter};
+use std::io::Eprint;
 use std::rt::Runtime;
 use std::time::Clock;
+use std::{fmt, io};
 
 // One search for the games of a problem visits so many nodes at most, where the words do not say it.
 const NODES: u64 = 100_000_000;
@@ -40,12 +43,24 @@ const BAD: u8 = 2;
 // A problem is not sound, or not settled.
 const OTHER: u8 = 1;
 
-// What is asked of each problem: how far it is searched, and where certificates stand, if they are kept.
+// What is asked of each problem: how far it is searched, where certificates stand, if they are kept, and whether those of
+// other problems are replaced there.
 #[derive(Clone, Copy)]
 struct Asked<'a> {
     reach: Reach,
     by_journeys: bool,
     folder: Option<&'a str>,
+    replaces: bool,
+}
+
+impl Asked<'_> {
+    // How far a problem is searched.
+    fn limits(&self) -> Limits {
+        Limits {
+            max_nodes: self.reach.nodes,
+            by_journeys: self.by_journeys,
+        }
+    }
 }
 
 // Shows how far a problem is judged, and ends that when its time is over.
@@ -53,6 +68,7 @@ struct Asked<'a> {
 struct Watch<'a, R> {
     line: JudgeLine<'a, R>,
     deadline: Deadline<'a, R>,
+    terminal: &'a Terminal,
 }
 
 impl<R: Clock + Eprint> JudgeProgress for Watch<'_, R> {
@@ -74,161 +90,248 @@ impl<R: Clock + Eprint> JudgeProgress for Watch<'_, R> {
     }
 }
 
-// A certificate that is written beside its place, and read again from there.
-#[derive(Drop)]
-struct OnDisk<F> {
-    draft: Draft<F>,
-}
-
-impl<F: Read> Read for OnDisk<F> {
-    fn read(&mut self, buffer: &mut [u8]) -> io::Result<usize> {
-        self.draft.file.read(buffer)
-    }
-}
-
-impl<F: Write> Write for OnDisk<F> {
-    fn write(&mut self, bytes: &[u8]) -> io::Result<usize> {
-        self.draft.file.write(bytes)
-    }
-
-    fn flush(&mut self) -> io::Result<()> {
-        self.draft.file.flush()
-    }
-}
-
-impl<F: Read + Write + Seek + OpenFile> Scratch for OnDisk<F> {
-    fn is_memory(&self) -> bool {
-        false
-    }
-
-    fn clear(&mut self) -> Result<(), Refused> {
-        if self.draft.file.set_len(0).is_err() {
-            return Err(Refused);
-        }
-        self.rewind()
-    }
-
-    fn rewind(&mut self) -> Result<(), Refused> {
-        match self.draft.file.seek(SeekFrom::Start(0)) {
-            Ok(_) => Ok(()),
-            Err(_) => Err(Refused),
-        }
-    }
-}
-
-// What is found of a problem, and whether a certificate that stood there was refused.
+// What is found of a problem, and what stood in the place of its certificate.
 #[derive(Drop)]
 struct Judged {
     ruling: Ruling,
-    refused: bool,
+    old: Old,
 }
 
-// What a certificate at this path proves of a problem.
-//
-// # Errors
-// Where it proves nothing: whether one stands there.
-fn standing<R: Runtime + AllocGlobal>(
+// Why a problem has no row.
+#[derive(Drop)]
+enum Spoiled {
+    /// The run ends.
+    Run(Refusal),
+    /// The file of its certificate is not read or written.
+    Place(FileFault),
+}
+
+impl From<AllocError> for Spoiled {
+    fn from(_fault: AllocError) -> Spoiled {
+        Spoiled::Run(Refusal::Memory)
+    }
+}
+
+impl<T: Drop> From<AllocFailed<T>> for Spoiled {
+    fn from(_fault: AllocFailed<T>) -> Spoiled {
+        Spoiled::Run(Refusal::Memory)
+    }
+}
+
+impl From<FileFault> for Spoiled {
+    fn from(fault: FileFault) -> Spoiled {
+        match fault {
+            FileFault::Memory => Spoiled::Run(Refusal::Memory),
+            fault => Spoiled::Place(fault),
+        }
+    }
+}
+
+// The file of a problem's certificate, as it is told, and what is the matter with it.
+#[derive(Drop)]
+struct AtPlace<'a> {
+    folder: &'a str,
+    name: &'a str,
+    fault: FileFault,
+}
+
+impl Display for AtPlace<'_> {
+    fn fmt<W: fmt::Write>(&self, f: &mut Formatter<W>) -> fmt::Result {
+        let (folder, name) = (FileName(self.folder), self.name);
+        match self.fault {
+            FileFault::Open(obstacle) => write!(f, "cannot open {folder}/{name}.pgc: {obstacle}"),
+            FileFault::Read => write!(f, "cannot read {folder}/{name}.pgc"),
+            FileFault::Write | FileFault::Memory => write!(f, "cannot write {folder}/{name}.pgc"),
+        }
+    }
+}
+
+// What a certificate that stands in a problem's place comes to: what it shows, or what is told of it.
+#[derive(Drop)]
+enum Standing {
+    Shows(Ruling),
+    Shown(Old),
+}
+
+// What becomes of a problem whose certificate stands there and does not settle it.
+fn unsettled(fault: &AnswerFault, is_over: bool) -> Result<Standing, Spoiled>
+    ensures { (d : Placement) (n : ℕ) → IfOk result (IsStanding d n) }
+{
+    match unsettled_of(fault) {
+        Unsettled::Bytes => Ok(Standing::Shown(Old::Refused)),
+        Unsettled::OfAnother => Ok(Standing::Shown(Old::OfAnother)),
+        Unsettled::Games => Ok(Standing::Shown(Old::Absent)),
+        Unsettled::Memory => Err(Spoiled::Run(Refusal::Memory)),
+        Unsettled::Read if is_over => Ok(Standing::Shows(time_is_over())),
+        Unsettled::Read => Err(Spoiled::Place(FileFault::Read)),
+    }
+}
+
+// What a certificate at this path, if one stands there, comes to within the time that a problem has.
+#[inline(never)]
+fn recheck_at<R: Runtime + AllocGlobal>(
     rt: &R,
     problem: &Problem,
     bounds: &[Box<dyn Bound>],
     path: &str,
-) -> Result<Ruling, bool>
-    ensures { IfOk result (λ r. IsFinding problem.now.diagram problem.now.length r.finding) }
+    asked: &Asked<'_>,
+    terminal: &Terminal,
+) -> Result<Standing, Spoiled>
+    ensures { IfOk result (IsStanding problem.now.diagram problem.now.length) }
 {
-    let Ok(file) = open_plain(rt, path) else {
-        return Err(false);
-    };
-    let mut source = FromRead::new(file);
-    match recheck(rt.alloc(), problem, bounds, &mut source, u64::MAX) {
-        Ok(ruling) => Ok(ruling),
-        Err(_) => Err(true),
+    if is_missing(rt, path) {
+        return Ok(Standing::Shown(Old::Absent));
+    }
+    let file = open_plain(rt, path)?;
+    let passing = Passing::new(rt, terminal, file, size_of(rt, path));
+    let mut source = Until::new(passing, Deadline::new(rt, asked.reach.milliseconds));
+    let found = recheck(rt.alloc(), problem, bounds, &mut source, u64::MAX);
+    let is_over = source.is_over();
+    source.into_inner().end();
+    match found {
+        Ok(ruling) => Ok(Standing::Shows(ruling)),
+        Err(fault) => unsettled(&fault, is_over),
     }
 }
 
-// Judges a problem, and puts the certificate that settles it at this path.
+// Judges a problem, and puts the certificate that settles it at this path. A link there is not followed.
+#[inline(never)]
 fn judge_to<R: Runtime + AllocGlobal, P: JudgeProgress>(
     rt: &R,
     entry: &Entry<'_>,
     bounds: &[Box<dyn Bound>],
-    limits: Limits,
+    asked: &Asked<'_>,
     path: &str,
     watch: &mut P,
-) -> Result<Ruling, Refusal>
+) -> Result<Ruling, Spoiled>
     ensures { IfOk result (λ r. IsFinding entry.now.problem.diagram entry.now.problem.length r.finding) }
 {
-    let draft = match begin(rt, path) {
-        Ok(draft) => draft,
-        Err(fault) => return Err(Refusal::of_file(fault, Named::Folder)),
+    let draft = begin_here(rt, path)?;
+    let handle = match draft.handle() {
+        Ok(handle) => handle,
+        Err(fault) => {
+            draft.discard(rt);
+            return Err(Spoiled::Place(fault));
+        }
     };
-    let mut scratch = OnDisk { draft };
-    let ruling = judge_problem(rt.alloc(), entry, bounds, limits, &mut scratch, watch);
-    let OnDisk { draft } = scratch;
+    let mut scratch = OnDisk::new(handle, asked.reach.bytes);
+    let ruling = judge_problem(
+        rt.alloc(),
+        entry,
+        bounds,
+        asked.limits(),
+        &mut scratch,
+        watch,
+    );
     if !matches!(&ruling.finding, Finding::Settled(_, _)) {
         draft.discard(rt);
         return Ok(ruling);
     }
     match draft.put(rt) {
         Ok(()) => Ok(ruling),
-        Err(fault) => Err(Refusal::of_file(fault, Named::Folder)),
+        Err(fault) => Err(Spoiled::from(fault)),
     }
 }
 
-// Judges a problem: by the certificate that stands in the folder, if one does and is right, else by searches.
-fn judge_by<R: Runtime + AllocGlobal, P: JudgeProgress>(
+// Judges a problem, and keeps no certificate of it.
+#[inline(never)]
+fn judge_loosely<R: Runtime + AllocGlobal, P: JudgeProgress>(
     rt: &R,
     entry: &Entry<'_>,
     bounds: &[Box<dyn Bound>],
     asked: &Asked<'_>,
     watch: &mut P,
-) -> Result<Judged, Refusal>
+) -> Ruling
+    ensures { IsFinding entry.now.problem.diagram entry.now.problem.length result.finding }
+{
+    let mut scratch = Loose::new(rt, asked.reach.bytes);
+    judge_problem(
+        rt.alloc(),
+        entry,
+        bounds,
+        asked.limits(),
+        &mut scratch,
+        watch,
+    )
+}
+
+// Judges a problem: by the certificate that stands in the folder, if one does and is right, else by searches. What they
+// write is put there, but in the place of a certificate of another problem only where that is asked.
+fn judge_in<R: Runtime + AllocGlobal>(
+    rt: &R,
+    entry: &Entry<'_>,
+    bounds: &[Box<dyn Bound>],
+    asked: &Asked<'_>,
+    path: &str,
+    watch: &mut Watch<'_, R>,
+) -> Result<Judged, Spoiled>
     ensures { IfOk result (λ j. IsFinding entry.now.problem.diagram entry.now.problem.length
         j.ruling.finding) }
 {
-    let limits = Limits {
-        max_nodes: asked.reach.nodes,
-        by_journeys: asked.by_journeys,
+    let old = match recheck_at(rt, &entry.problem, bounds, path, asked, watch.terminal) {
+        Ok(Standing::Shows(ruling)) => {
+            return Ok(Judged {
+                ruling,
+                old: Old::Absent,
+            });
+        }
+        Ok(Standing::Shown(old)) => old,
+        Err(spoiled) => return Err(spoiled),
     };
+    if old == Old::OfAnother && !asked.replaces {
+        let ruling = judge_loosely(rt, entry, bounds, asked, watch);
+        return Ok(Judged { ruling, old });
+    }
+    let old = if old == Old::OfAnother {
+        Old::Refused
+    } else {
+        old
+    };
+    match judge_to(rt, entry, bounds, asked, path, watch) {
+        Ok(ruling) => Ok(Judged { ruling, old }),
+        Err(spoiled) => Err(spoiled),
+    }
+}
+
+// Judges a problem, with its certificate in the folder, if certificates are kept.
+fn judge_by<R: Runtime + AllocGlobal>(
+    rt: &R,
+    entry: &Entry<'_>,
+    bounds: &[Box<dyn Bound>],
+    asked: &Asked<'_>,
+    watch: &mut Watch<'_, R>,
+) -> Result<Judged, Spoiled>
+    ensures { IfOk result (λ j. IsFinding entry.now.problem.diagram entry.now.problem.length
+        j.ruling.finding) }
+{
     let Some(folder) = asked.folder else {
-        let mut scratch = Cursor::new(Vec::new(rt.alloc()));
-        let ruling = judge_problem(rt.alloc(), entry, bounds, limits, &mut scratch, watch);
+        let ruling = judge_loosely(rt, entry, bounds, asked, watch);
         return Ok(Judged {
             ruling,
-            refused: false,
+            old: Old::Absent,
         });
     };
     let Ok(path) = format!(in rt.alloc(); "{folder}/{}.pgc", entry.name) else {
-        return Err(Refusal::Memory);
+        return Err(Spoiled::Run(Refusal::Memory));
     };
-    let refused = match standing(rt, &entry.problem, bounds, path.as_str()) {
-        Ok(ruling) => {
-            return Ok(Judged {
-                ruling,
-                refused: false,
-            });
-        }
-        Err(refused) => refused,
-    };
-    let ruling = judge_to(rt, entry, bounds, limits, path.as_str(), watch)?;
-    Ok(Judged { ruling, refused })
+    judge_in(rt, entry, bounds, asked, path.as_str(), watch)
 }
 
 // Judges a problem by the five bounds.
-fn judge_entry<R: Runtime + AllocGlobal, P: JudgeProgress>(
+fn judge_entry<R: Runtime + AllocGlobal>(
     rt: &R,
     entry: &Entry<'_>,
     asked: &Asked<'_>,
-    watch: &mut P,
-) -> Result<Judged, Refusal>
+    watch: &mut Watch<'_, R>,
+) -> Result<Judged, Spoiled>
     ensures { IfOk result (λ j. IsFinding entry.now.problem.diagram entry.now.problem.length
         j.ruling.finding) }
 {
     let captures = Box::new(rt.alloc(), Captures)?;
     let promotions = Box::new(rt.alloc(), Promotions)?;
     let pawn_files = Box::new(rt.alloc(), PawnFiles)?;
-    let rows = Rows::new(&entry.problem.diagram);
-    let travel = Box::new(rt.alloc(), TravelByRows { rows })?;
-    let remembering = JourneysByMemory::new(rt.alloc(), &entry.problem.diagram)?;
-    let journeys = Box::new(rt.alloc(), remembering)?;
+    let travel = travel_to(rt.alloc(), &entry.problem.diagram)?;
+    let journeys = journeys_to(rt.alloc(), &entry.problem.diagram)?;
     let bounds: [Box<dyn Bound>; 5] = [captures, promotions, pawn_files, travel, journeys];
     judge_by(rt, entry, &bounds, asked, watch)
 }
@@ -252,6 +355,7 @@ struct Place {
 }
 
 // Judges a problem, and hands its row on; its status: 0 where it is sound, else 1.
+#[inline(never)]
 fn judge_and_tell<R: Runtime + AllocGlobal, W: Sink>(
     rt: &R,
     entry: &Entry<'_>,
@@ -259,18 +363,23 @@ fn judge_and_tell<R: Runtime + AllocGlobal, W: Sink>(
     place: Place,
     terminal: &Terminal,
     out: &mut Gathered<W>,
-) -> Result<u8, Refusal>
+) -> Result<u8, Spoiled>
     ensures headline { IfOk result (λ s. s ≡ 0 → IsSound entry.now.problem.diagram entry.now.problem.length) }
     ensures few { IfOk result (λ s. s < 3) }
 {
     let mut watch = Watch {
         line: JudgeLine::new(rt, terminal, place.number, place.count),
         deadline: Deadline::new(rt, asked.reach.milliseconds),
+        terminal,
     };
-    let judged = judge_entry(rt, entry, asked, &mut watch)?;
+    let answer = judge_entry(rt, entry, asked, &mut watch);
     watch.line.end();
-    if write_row(entry, &judged.ruling, judged.refused, out).is_err() || out.flush().is_err() {
-        return Err(Refusal::Write);
+    let judged = match answer {
+        Ok(judged) => judged,
+        Err(spoiled) => return Err(spoiled),
+    };
+    if write_row(entry, &judged.ruling, judged.old, out).is_err() || out.flush().is_err() {
+        return Err(Spoiled::Run(Refusal::Write));
     }
     Ok(status_of(&judged.ruling))
 }
@@ -308,7 +417,19 @@ fn judge_line<'t, R: Runtime + AllocGlobal, W: Sink>(
         Err(_) => return Err(Refusal::Memory),
     }
     seen.place.number = seen.place.number.saturating_add(1);
-    judge_and_tell(rt, &entry, asked, seen.place, terminal, out)
+    match judge_and_tell(rt, &entry, asked, seen.place, terminal, out) {
+        Ok(status) => Ok(status),
+        Err(Spoiled::Run(refusal)) => Err(refusal),
+        Err(Spoiled::Place(fault)) => {
+            let (folder, name) = (asked.folder.unwrap_or(""), entry.name);
+            let place = AtPlace {
+                folder,
+                name,
+                fault,
+            };
+            Ok(say_bad(rt, seen.lines, place))
+        }
+    }
 }
 
 // What came before a line: how many lines, the names of the problems, and how many of all these are.
@@ -382,6 +503,17 @@ fn problems_of<R: Runtime + AllocGlobal>(
     }
 }
 
+// Makes the folder of the certificates, if they are kept and it is not there.
+fn make_place<R: Runtime + AllocGlobal>(rt: &R, folder: Option<&str>) -> Result<(), Refusal> {
+    let Some(folder) = folder else {
+        return Ok(());
+    };
+    match make_folder(rt, folder) {
+        Ok(()) => Ok(()),
+        Err(fault) => Err(Refusal::of_file(fault, Named::Folder)),
+    }
+}
+
 // `pg judge`: a row for each problem stands on standard output. The list is that of the file PROBLEMS or of standard
 // input, of which no contract can say what it gives.
 #[inline(never)]
@@ -393,10 +525,13 @@ pub(crate) fn judge<R: Runtime + AllocGlobal>(
     ensures { IfOk result (λ status. status < 3) }
 {
     let text = problems_of(rt, words)?;
+    let folder = words.get_str("certificates");
+    make_place(rt, folder)?;
     let asked = Asked {
         reach: reach_of(words, NODES),
         by_journeys: say_journeys(words),
-        folder: words.get_str("certificates"),
+        folder,
+        replaces: say_replace(words),
     };
     let terminal = Terminal::new(screen.lines);
     let mut out = Gathered::new(Cleared::new(ToWrite::new(io::writer(rt)), rt, &terminal));

@@ -4,12 +4,17 @@ use clap::ArgMatches;
 use clap::parser::ValueSource;
 use pg_streams::milliseconds_of;
 
-// How far a search goes: so many nodes, and so many milliseconds, or any number of them.
+// How far a search goes: so many nodes, so many milliseconds, or any number of them, and so many bytes of a certificate
+// that is written to a file.
 #[derive(Clone, Copy)]
 pub(crate) struct Reach {
     pub(crate) nodes: u64,
     pub(crate) milliseconds: Option<u64>,
+    pub(crate) bytes: u64,
 }
+
+// A certificate has so many bytes at most, where the words do not say it.
+const BYTES: u64 = 4_000_000_000;
 
 // The milliseconds that the words say, if they do.
 fn milliseconds(words: &ArgMatches<'_>) -> Option<u64> {
@@ -28,6 +33,7 @@ pub(crate) fn reach_of(words: &ArgMatches<'_>, usual: u64) -> Reach {
             nodes
         },
         milliseconds,
+        bytes: words.get_one::<u64>("bytes").unwrap_or(BYTES),
     }
 }
 

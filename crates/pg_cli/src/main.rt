@@ -12,11 +12,13 @@ ghost use Rattle.pg_cli.specs.Answers.{IsNamedIn};
 ghost use Rattle.pg_cli.specs.Words.{GoesByJourneys, IsStatus, IsSubcommand, says};
 
 mod answering;
+mod bounds;
 mod checking;
 mod commands;
 mod guiding;
 mod hints;
 mod judging;
+mod keeping;
 mod knowing;
 mod limits;
 mod lists;
@@ -29,19 +31,19 @@ mod spelling;
 mod upgrading;
 
 use crate::answering::diagram_in;
+use crate::bounds::{journeys_to, travel_to};
 use crate::commands::Command;
 use crate::hints::{advise, advise_words};
 use crate::limits::are_minutes;
 use crate::refusals::{BAD_INPUT, DONE, NO_FILE, Refusal, refuse};
 use crate::screen::{Screen, is_dumb};
-use crate::spelling::{say_journeys, text_of};
+use crate::spelling::{nameless_in, say_journeys, text_of};
 use clap::ArgMatches;
 use clap::error::ErrorKind;
 use pg_fen::Diagram;
 use pg_files::FileName;
-use pg_journeys::{Journeys, JourneysByMemory};
+use pg_journeys::Journeys;
 use pg_report::{Bound, Captures, PawnFiles, Promotions, Travel};
-use pg_travel::{Rows, TravelByRows};
 use pg_words::pg;
 use std::fs::File;
 use std::io::IsTerminal;
@@ -159,7 +161,8 @@ fn goes_by_journeys(words: &ArgMatches<'_>) -> bool
 // Does what the words of a command say, with the bounds in the order of their codes, and gives the status.
 //
 // # Errors
-// `Minutes` where their number of minutes is none, and `Memory` where a growth was refused before.
+// `Minutes` where their number of minutes is none, then `NoName` where a word that is to name a file is empty, and
+// `Memory` where a growth was refused before.
 fn run<R: Runtime + AllocGlobal>(
     rt: &R,
     words: &ArgMatches<'_>,
@@ -170,25 +173,22 @@ fn run<R: Runtime + AllocGlobal>(
     if !are_minutes(words) {
         return Err(Refusal::Minutes);
     }
+    if let Some(named) = nameless_in(words) {
+        return Err(Refusal::NoName(named));
+    }
     let captures = Box::new(rt.alloc(), Captures)?;
     let promotions = Box::new(rt.alloc(), Promotions)?;
     let pawn_files = Box::new(rt.alloc(), PawnFiles)?;
     let diagram = diagram_of(rt, words);
     let travel: Box<dyn Bound> = match &diagram {
-        Some(diagram) => {
-            let rows = Rows::new(diagram);
-            Box::new(rt.alloc(), TravelByRows { rows })?
-        }
+        Some(diagram) => travel_to(rt.alloc(), diagram)?,
         None => Box::new(rt.alloc(), Travel)?,
     };
     let four: [Box<dyn Bound>; 4] = [captures, promotions, pawn_files, travel];
     let mut bounds = Vec::from_array(rt.alloc(), four)?;
     if goes_by_journeys(words) {
         let journeys: Box<dyn Bound> = match &diagram {
-            Some(diagram) => {
-                let remembering = JourneysByMemory::new(rt.alloc(), diagram)?;
-                Box::new(rt.alloc(), remembering)?
-            }
+            Some(diagram) => journeys_to(rt.alloc(), diagram)?,
             None => Box::new(rt.alloc(), Journeys)?,
         };
         bounds.push(journeys)?;

@@ -10,13 +10,16 @@ use pg_report::{
 };
 use pg_streams::Gathered;
 use std::alloc::{AllocError, AllocFailed};
-use std::fmt::Write;
+use std::fmt::{Display, Formatter, Write};
 use std::io::Eprint;
-use std::str;
+use std::{fmt, str};
 use thiserror::Error;
 
 // A command is done, or its words ask for help.
 pub(crate) const DONE: u8 = 0;
+
+// A search gave up.
+const GAVE_UP: u8 = 1;
 
 // Words or texts are refused.
 pub(crate) const BAD_INPUT: u8 = 2;
@@ -69,6 +72,17 @@ impl Named {
     }
 }
 
+// The word as its user types it.
+impl Display for Named {
+    fn fmt<W: fmt::Write>(&self, f: &mut Formatter<W>) -> fmt::Result {
+        match self {
+            Named::Kept => f.write_str("--games"),
+            Named::Folder => f.write_str("--certificates"),
+            named => f.write_str(named.word()),
+        }
+    }
+}
+
 // No name of a file.
 pub(crate) const NO_FILE: FileName<'static> = FileName("");
 
@@ -85,6 +99,9 @@ pub(crate) enum Refusal {
     /// stands in the way. Its name stands behind the text.
     #[error("cannot open ")]
     Open(Named, Obstacle),
+    /// A word that is to name a file or a folder is empty.
+    #[error("cannot open {0}: the word is empty")]
+    NoName(Named),
     /// The moves that are asked for are not one game.
     #[error("not one line of moves")]
     Line,
@@ -115,6 +132,9 @@ pub(crate) enum Refusal {
     /// The search has no certificate.
     #[error("{0}")]
     Search(SearchFault),
+    /// The certificate of a search would have more bytes than it may, and so much is known.
+    #[error("certificate limit reached")]
+    Full(Known),
     /// The search gave up, and so much is known.
     #[error("{0}")]
     GaveUp(SearchFault, Known),
@@ -149,7 +169,8 @@ impl Refusal {
         ensures fails { 0 < result }
     {
         match self {
-            Refusal::Open(_, _) | Refusal::Read | Refusal::Write => FILES,
+            Refusal::Open(_, _) | Refusal::NoName(_) | Refusal::Read | Refusal::Write => FILES,
+            Refusal::Full(_) => GAVE_UP,
             Refusal::Words | Refusal::Line | Refusal::NoGame | Refusal::NotUtf8 => BAD_INPUT,
             Refusal::Minutes => BAD_INPUT,
             Refusal::Memory => MEMORY,

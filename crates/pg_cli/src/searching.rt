@@ -27,7 +27,9 @@ use pg_report::{
     ToWrite, run_listed, search_watched, verdict_status,
 };
 use pg_searcher::search_by_journeys;
-use pg_streams::{Cleared, Deadline, Gathered, Kept, Passing, SearchLine, Terminal, Timed};
+use pg_streams::{
+    Cleared, Deadline, Gathered, Kept, Limited, Passing, SearchLine, Terminal, Timed,
+};
 use std::alloc::Global;
 use std::io;
 use std::io::{Read, Seek, SeekFrom, Write};
@@ -36,13 +38,14 @@ use std::rt::Runtime;
 // So many nodes are visited at most, where the words do not say it.
 const NODES: u64 = 1_000_000;
 
-// What a search came to: the games that it found, or why it has none; those that it met, each tested; and how far it
-// came.
+// What a search came to: the games that it found, or why it has none; those that it met, each tested; how far it came;
+// and whether the certificate had no more room.
 #[derive(Drop)]
 pub(crate) struct Searched {
     found: Result<Games, SearchFault>,
     met: Games,
     known: Known,
+    is_full: bool,
 }
 
 // Whether the bound by journeys is among these.
@@ -90,7 +93,7 @@ pub(crate) fn search_to<R: Runtime + AllocGlobal, W: Write + Drop>(
     ensures met { IfOk result (λ searched. AreMet problem.now.diagram problem.now.length searched.known) }
     ensures err { IfErr result (λ refusal. IsSearchRefusal problem.now.diagram problem.now.length refusal) }
 {
-    let mut sink = ToWrite::new(certificate);
+    let mut sink = ToWrite::new(Limited::new(certificate, reach.bytes));
     let nodes = reach.nodes;
     let line = SearchLine::new(rt, terminal, nodes);
     let timed = Timed::new(line, Deadline::new(rt, reach.milliseconds));
@@ -121,6 +124,7 @@ pub(crate) fn search_to<R: Runtime + AllocGlobal, W: Write + Drop>(
         found,
         met: games,
         known,
+        is_full: sink.into_inner().is_full(),
     })
 }
 
@@ -236,13 +240,19 @@ where
         Ok(searched) => searched,
         Err(refusal) => return Err(refusal),
     };
-    let Searched { found, met, known } = searched;
+    let Searched {
+        found,
+        met,
+        known,
+        is_full,
+    } = searched;
     match write_list(problem, &met, &mut drafts.list) {
         Ok(()) => {}
         Err(refusal) => return Err(refusal),
     }
     let games = match found {
         Ok(games) => games,
+        Err(_) if is_full => return Err(Refusal::Full(known)),
         Err(fault) => return Err(gave_up(fault, known)),
     };
     let size = drafts.certificate.file.seek(SeekFrom::End(0)).ok();
@@ -345,7 +355,7 @@ fn put_both<R: Runtime + AllocGlobal>(rt: &R, drafts: Drafts<R::File>) -> Result
 // Whether a search gave up and had met games.
 fn has_games(refusal: &Refusal) -> bool {
     match refusal {
-        Refusal::GaveUp(_, known) => known.games > 0,
+        Refusal::GaveUp(_, known) | Refusal::Full(known) => known.games > 0,
         _ => false,
     }
 }

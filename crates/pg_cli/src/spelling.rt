@@ -4,7 +4,7 @@ ghost use Rattle.clap.specs.Words.{first_of, found_of, one_of, rows_of};
 ghost use Rattle.pg_cli.specs.Runs.{IsOfProblem};
 ghost use Rattle.pg_cli.specs.Words.{IsNumber, IsSpelled, spelled};
 
-use crate::refusals::Refusal;
+use crate::refusals::{Named, Refusal};
 use clap::ArgMatches;
 use pg_report::Problem;
 
@@ -57,13 +57,50 @@ pub(crate) fn problem_in(words: &ArgMatches<'_>) -> Result<Problem, Refusal>
     }
 }
 
+// Whether the words have the name of a flag.
+fn say(words: &ArgMatches<'_>, flag: &str) -> bool
+    ensures { IsTrue result ↔ (first_of flag.now (rows_of (found_of words.now)) ≡ Some (codes "true")) }
+{
+    match words.get_str(flag) {
+        Some(text) => text == "true",
+        None => false,
+    }
+}
+
 // Whether the words say `--journeys`.
 pub(crate) fn say_journeys(words: &ArgMatches<'_>) -> bool
     ensures { IsTrue result ↔
         (first_of (codes "journeys") (rows_of (found_of words.now)) ≡ Some (codes "true")) }
 {
-    match words.get_str("journeys") {
-        Some(text) => text == "true",
-        None => false,
+    say(words, "journeys")
+}
+
+// Whether the words say `--replace`.
+pub(crate) fn say_replace(words: &ArgMatches<'_>) -> bool
+    ensures { IsTrue result ↔
+        (first_of (codes "replace") (rows_of (found_of words.now)) ≡ Some (codes "true")) }
+{
+    say(words, "replace")
+}
+
+// The words that name files and folders.
+const NAMES: [Named; 7] = [
+    Named::Certificate,
+    Named::Games,
+    Named::Kept,
+    Named::Old,
+    Named::New,
+    Named::Problems,
+    Named::Folder,
+];
+
+// The first word of a command that is to name a file or a folder and is empty, if one is.
+pub(crate) fn nameless_in(words: &ArgMatches<'_>) -> Option<Named> {
+    let (_, inner) = words.subcommand()?;
+    for named in NAMES {
+        if inner.get_str(named.word()) == Some("") {
+            return Some(named);
+        }
     }
+    None
 }
