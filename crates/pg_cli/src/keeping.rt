@@ -113,6 +113,8 @@ impl<'a, R: Runtime + AllocGlobal> Loose<'a, R> {
 }
 
 impl<R: Runtime + AllocGlobal> Read for Loose<'_, R> {
+    // It comes once in some thousand bytes: inlined, it would keep the reading of a single byte from being so.
+    #[inline(never)]
     fn read(&mut self, buffer: &mut [u8]) -> io::Result<usize> {
         match &mut self.long {
             Some(long) => long.read(buffer),
