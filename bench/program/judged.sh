@@ -37,7 +37,7 @@ certificates_are_right() {
 goes_on() {
   local stand
   stand=$(find "$1" -name '[a-z]*.pgc' | wc -l)
-  "$pg" judge problems --certificates "$1" "${limits[@]}" >rows 2>error
+  "$pg" judge problems --certificates "$1" "${limits[@]}" 2>error >rows
   [ "$?$(cat error)" = "$undisturbed" ] && diff <(essence undisturbed) <(essence rows) >difference ||
     fail "$2: the next run has other rows" error difference
   [ "$(cut -f 5 rows | grep -c '^certificate')" = "$stand" ] || fail "$2: the next run does not go on from there" rows
@@ -114,7 +114,7 @@ listing() {
 # Runs `pg judge` with the words $4 ..: it is to end with status $1, to say $2 on standard error, and to print $3.
 expect() {
   local status
-  "${as[@]}" "$pg" judge "${@:4}" >rows 2>error </dev/null
+  "${as[@]}" "$pg" judge "${@:4}" 2>error >rows </dev/null
   status=$?
   [ "$status" = "$1" ] && [ "$(cat error)" = "${2:+pg: $2}" ] && [ "$(cat rows)" = "$3" ] ||
     fail "pg judge ${*:4}: status $status for $1, not '$2', or not the row '$3'" error rows
@@ -206,7 +206,7 @@ mapfile -t schweig <"$top/examples/schweig/problem"
 schweig_proof=$top/examples/schweig/certificate.pgc
 echo "schweig ${schweig[*]}" >slow
 F ''
-"$pg" judge slow --certificates F >rows 2>error &
+"$pg" judge slow --certificates F 2>error >rows &
 run=$!
 until [ -e F/.schweig.pgc.pg-part-0 ] || ! kill -0 "$run" 2>/dev/null; do :; done
 kill -STOP "$run" && mkdir F/schweig.pgc && kill -CONT "$run"
