@@ -22,12 +22,7 @@ fn entry_of<'a, R: Abort + AllocGlobal>(rt: &R, line: &'a str) -> Entry<'a> {
 }
 
 // The row of a ruling, as a text in which bars stand for tabs.
-fn row_of<R: Abort + AllocGlobal>(
-    rt: &R,
-    entry: &Entry<'_>,
-    ruling: &Ruling,
-    old: Old,
-) -> String
+fn row_of<R: Abort + AllocGlobal>(rt: &R, entry: &Entry<'_>, ruling: &Ruling, old: Old) -> String
     requires { IsFinding entry.now.problem.diagram entry.now.problem.length ruling.now.finding }
 {
     let mut out = ToWrite::new(Vec::new(rt.alloc()));
