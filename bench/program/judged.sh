@@ -227,6 +227,16 @@ row=$(printf 'schweig\t4.0\tnot settled\t-\tcertificate, time is over\t0 games m
 expect 1 '' "$row" slow --certificates F --minutes 0
 [ "$(ls -A F)" = schweig.pgc ] && cmp "$schweig_proof" F/schweig.pgc >error || fail '--minutes 0: not left' error
 
+# Without FOLDER a long certificate, here of 46 MB, is not kept in memory. It is made again in a file with no name, which
+# leaves nothing; where no folder takes that file, the problem is not settled.
+printf 'king %s\n' "$(tr '\n' ' ' <"$top/examples/king-on-a1/problem")" >king
+mkdir temporary
+within_100_MB() { (ulimit -v 100000; TMPDIR=$1 "$pg" judge king 2>error | cut -f 3,6); }
+[ "$(within_100_MB temporary | cut -f 1)" = sound ] && [ -z "$(ls -A temporary)" ] && [ ! -s error ] ||
+  fail 'a long certificate that is not kept' error
+[ "$(within_100_MB nowhere)" = $'not settled\t1 game met; none below 12.5; certificate not written' ] && [ ! -s error ] ||
+  fail 'a long certificate for which there is no file' error
+
 # On a terminal the check of a long certificate shows how far it is.
 if command -v script >/dev/null; then
   echo 'long rnbqkbnr/pppppppp/8/8/8/3P4/PPPP1PPP/RNBQKBNR 64.0' >long
