@@ -122,19 +122,19 @@ fn small_scratches(rt: HostRuntime) {
     check_small(
         &rt,
         Room::Refuses,
-        "pawns|1.0|not settled|-|search, 21 nodes|1 game met; none below 1.0; certificate limit reached\n",
+        "pawns|1.0|not settled|-|search, 22 nodes|1 game met; none below 1.0; certificate limit reached\n",
         "Search 1000, ",
     );
     check_small(
         &rt,
         Room::Drops,
-        "pawns|1.0|sound|-|search, 21 nodes|1. e4 e5\n",
+        "pawns|1.0|sound|-|search, 22 nodes|1. e4 e5\n",
         "Search 1000, Search 1000, ",
     );
     check_small(
         &rt,
         Room::Stays,
-        "pawns|1.0|not settled|-|search, 21 nodes|1 game met; none below 1.0; certificate not written\n",
+        "pawns|1.0|not settled|-|search, 22 nodes|1 game met; none below 1.0; certificate not written\n",
         "Search 1000, ",
     );
 }
