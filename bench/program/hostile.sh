@@ -509,14 +509,14 @@ expect 0 '' '"$pg" check $queen 2.0 good.pgc games --journeys | cmp - report'
 expect 0 '' '"$pg" answer good.pgc --journeys | cmp - report'
 
 # With the words behind $1 `pg` ends with the status $1 and prints something; and with the least stack that the README
-# names it ends so too, and prints and says the same.
+# names it ends so too, and prints and says the same. The environment stands on the stack as well, so there is none.
 small() {
   local status
   "$pg" "${@:2}" >"$work/ample" 2>"$work/ample-said" </dev/null
   status=$?
   [ "$status" = "$1" ] && [ -s "$work/ample" ] ||
     { echo "pg ${*:2}: status $status for $1, or nothing printed" >&2; wrong=1; }
-  (ulimit -s 400; "$pg" "${@:2}" >"$work/out" 2>"$work/err" </dev/null)
+  (ulimit -s 400; env -i "$pg" "${@:2}" >"$work/out" 2>"$work/err" </dev/null)
   [ "$?" = "$1" ] && cmp -s "$work/ample" "$work/out" && cmp -s "$work/ample-said" "$work/err" ||
     { echo "pg ${*:2}: another end with 400 KB of stack" >&2; head -n 3 "$work/out" "$work/err" >&2; wrong=1; }
 }
