@@ -9,10 +9,11 @@ use Rattle.pg_captures.specs.Counting.{men, any_man}
 use Rattle.pg_journeys.specs.declared.facts.Facts.{Facts as FactSets}
 use Rattle.pg_report.specs.declared.expecting.Expected.{Expected}
 
--- nothing is known against games of n plies: there are facts about them, and the least length is no longer
+-- nothing is known against games of n plies: there are facts about them, and the least length is
+-- no longer; and it is shorter by four plies at most, since the rule of thumb is fitted to no others
 abbrev pub IsOpen : ℕ → Option FactSets → Option ℕ → Type 0
 IsOpen n facts None = ⊥
-IsOpen n facts (Some least) = IsSome facts × (least ≤ n)
+IsOpen n facts (Some least) = IsSome facts × (least ≤ n) × (n ≤ least + 4)
 
 -- how many men of the initial array may move or be captured in some games, by facts about these
 abbrev pub free_men : FactSets → ℕ
@@ -22,31 +23,24 @@ free_men f = 32 - count_below (has f.still) 64
 abbrev pub captured_men : Placement → ℕ
 captured_men d = 32 - (men White any_man d + men Black any_man d)
 
--- on how many squares captures may land in some games, those of either colour counted apart, by facts about these
-abbrev pub landing_squares : FactSets → ℕ
-landing_squares f = count_below (has f.white) 64 + count_below (has f.black) 64
-
--- what such squares make of a search for games of n plies
-abbrev pub spread : ℕ → ℕ → ℕ
-spread landing n = landing * n / 20
-
--- a rule of thumb for a search by journeys, in hundredths of the logarithm to the base 10 of its nodes
+-- a rule of thumb for a search by journeys for games of n plies, in hundredths of the logarithm to the base 10 of its nodes
 abbrev pub by_journeys : ℕ → ℕ → ℕ → ℕ
-by_journeys free captured spread = 88 + 34 * min free 11 + 5 * free + spread - 42 * min captured 4
+by_journeys n free captured = 60 + 28 * min n 14 + 8 * min free 11 - 28 * min captured 4
 
 -- one for a search without them, by plies and the slack of either side
 abbrev pub without_journeys : ℕ → ℕ → ℕ → ℕ
 without_journeys n white black = 65 * (white + black) + 26 * n - 60
 
--- what the rule of thumb says of the length that is asked, and whether the other one says ten times more for some slack
--- of either side, of which nothing is said; it may be missing, and is where something is known against games of that length
+-- what the rule of thumb says of the length that is asked, and whether the other one says ten times more for some slack of
+-- either side, of which nothing is said; it may be missing, and is where something is known against games of that length
+-- or where that is longer than the least one by more than four plies
 abbrev pub IsExpected : Placement → Option ℕ → Option FactSets → Option ℕ → Option Expected → Type 0
 IsExpected d asked facts least None = Unit {0}
 IsExpected d None facts least (Some e) = ⊥
 IsExpected d (Some n) facts least (Some e) =
     IsOpen n facts least
     × (Some e.hundredths ≡ option_map
-    (λ f. by_journeys (free_men f) (captured_men d) (spread (landing_squares f) n)) facts)
+    (λ f. by_journeys n (free_men f) (captured_men d)) facts)
     × ((white : ℕ) × (black : ℕ) × (IsTrue e.is_longer ↔ (e.hundredths + 100 ≤ without_journeys n white black)))
 
 -- so many hundredths of an exponent; those of the next power of ten where
@@ -76,9 +70,9 @@ unit_text z =
 abbrev pub power_text : ℕ → List ℕ
 power_text h = digit_text (rounded h % 100) ++ unit_text (rounded h / 100)
 
--- from a tenth of it, but at least one, to ten times as much
+-- from a twentieth of it, but at least one, to twenty times as much: 20 is 10^1.3010
 abbrev pub range_text : ℕ → List ℕ
-range_text h = power_text (h - 100) ++ (codes " to " ++ power_text (h + 100))
+range_text h = power_text (h - 130) ++ (codes " to " ++ power_text (h + 130))
 
 -- what stands behind these numbers
 abbrev pub end_text : Bool → List ℕ

@@ -4,7 +4,7 @@ ghost use Rattle.std.specs.Option.{option_map};
 ghost use Rattle.pg_certificate.specs.Pushing.{Adds, Pushes};
 ghost use Rattle.pg_report.specs.Expecting.{IsExpected, IsOpen, expected_text, end_text, power_text, range_text};
 ghost use Rattle.pg_report.specs.Expecting.{rounded, digit_text, unit_text};
-ghost use Rattle.pg_report.specs.Expecting.{by_journeys, captured_men, free_men, landing_squares, spread};
+ghost use Rattle.pg_report.specs.Expecting.{by_journeys, captured_men, free_men};
 
 use crate::within::Known;
 use pg_board::Color;
@@ -23,13 +23,20 @@ pub(crate) struct Expected {
     pub(crate) is_longer: bool,
 }
 
-// Whether nothing is known against games of a length.
+// A length that is longer than the least one by more plies than this is not forecast.
+const MOST_SPARE: u8 = 4;
+
+// Whether nothing is known against games of a length, and the least length is shorter by few plies at most.
 fn is_open(length: &Length, known: &Known) -> bool
     ensures { IsTrue result → IsOpen length.now known.now.facts known.now.least }
 {
     match known.least {
         None => false,
-        Some(least) => known.facts.is_some() && least.plies() <= length.plies(),
+        Some(least) => {
+            known.facts.is_some()
+                && least.plies() <= length.plies()
+                && length.plies() <= least.plies() + MOST_SPARE
+        }
     }
 }
 
@@ -48,41 +55,21 @@ fn captured_men(diagram: &Diagram) -> u8
     32u8.saturating_sub(all_men(&board, Color::White) + all_men(&board, Color::Black))
 }
 
-// On how many squares captures may land in some games, those of either colour counted apart, by facts about these.
-fn landing_squares(facts: &Facts) -> u8
-    ensures { result ≡ landing_squares facts.now }
+// The rule of thumb for games of so many plies, by men who may move or be captured, and by men who were captured.
+fn by_journeys(plies: u8, free: u8, captured: u8) -> u16
+    ensures { result ≡ by_journeys plies free captured }
 {
-    facts.white.len() + facts.black.len()
-}
-
-// What squares where captures may land make of a search for games of so many plies, in hundredths.
-fn spread(landing: u8, plies: u8) -> u16
-    ensures value { result ≡ spread landing plies }
-    ensures bound { result ≤ 3276 }
-{
-    u16::from(landing) * u16::from(plies) / 20
-}
-
-// The rule of thumb, by men who may move or be captured, by men who were captured, and by that.
-fn by_journeys(free: u8, captured: u8, spread: u16) -> u16
-    requires { spread ≤ 3276 }
-    ensures { result ≡ by_journeys free captured spread }
-{
-    let free = u16::from(free);
-    (88 + 34 * free.min(11) + 5 * free + spread).saturating_sub(42 * u16::from(captured.min(4)))
+    let quiet = 60 + 28 * u16::from(plies.min(14)) + 8 * u16::from(free.min(11));
+    quiet.saturating_sub(28 * u16::from(captured.min(4)))
 }
 
 // What the rule says by facts about the games of so many plies.
 fn by_facts(diagram: &Diagram, plies: u8, facts: &Option<Facts>) -> Option<u16>
-    ensures { result ≡ option_map (λ f. by_journeys (free_men f) (captured_men diagram.now)
-        (spread (landing_squares f) plies)) facts.now }
+    ensures { result ≡ option_map (λ f. by_journeys plies (free_men f) (captured_men diagram.now)) facts.now }
 {
     match facts {
         None => None,
-        Some(facts) => {
-            let spread = spread(landing_squares(facts), plies);
-            Some(by_journeys(free_men(facts), captured_men(diagram), spread))
-        }
+        Some(facts) => Some(by_journeys(plies, free_men(facts), captured_men(diagram))),
     }
 }
 
@@ -94,7 +81,7 @@ fn is_tenfold(hundredths: u32, other: u16) -> bool
 }
 
 // What may be expected of a search for games of a length; nothing where no length is asked, where something is known
-// against such games, or where a colour has too few plies for its men.
+// against such games, where the least length is shorter by many plies, or where a colour has too few plies for its men.
 pub(crate) fn expected_of(
     alloc: Global,
     diagram: &Diagram,
@@ -186,14 +173,14 @@ fn write_power<W: Sink>(hundredths: u32, out: &mut W) -> Result<(), Refused>
     out.push(unit_words(exponent / 100).as_bytes())
 }
 
-// Appends a tenth of a power of ten, by hundredths of its exponent, but at least one, and ten times it.
+// Appends a twentieth of a power of ten, by hundredths of its exponent, but at least one, and twenty times it.
 fn write_range<W: Sink>(hundredths: u16, out: &mut W) -> Result<(), Refused>
     ensures { Pushes W.held W.has_failed (Adds (range_text hundredths)) out.old out.new result }
 {
     let hundredths = u32::from(hundredths);
-    write_power(hundredths.saturating_sub(100), out)?;
+    write_power(hundredths.saturating_sub(130), out)?;
     out.push(b" to ")?;
-    write_power(hundredths + 100, out)
+    write_power(hundredths + 130, out)
 }
 
 // The end of the line.

@@ -229,8 +229,9 @@ fn write_shown<W: Sink>(
 /// how many are short. Below these lines stands what the bound by journeys knows of the games of that length: a line a
 /// colour, with the squares on which its captures land, where they are eight or fewer, and its men who never move; no
 /// line where neither is known. Where the bound excludes these games, one line says so. Where nothing is known against
-/// them and neither colour has too few plies for its men, a last line says from how many to how many nodes a search by
-/// journeys may visit, by a rule of thumb, and where by `forecast` one without them visits ten times more.
+/// them, the least length is shorter by four plies at most and neither colour has too few plies for its men, a last line
+/// says from how many to how many nodes a search by journeys may visit, by a rule of thumb, and where by `forecast` one
+/// without them visits ten times more.
 ///
 /// # Errors
 /// `Memory` where a growth was refused, and then the sink is as it was; `Write` where the sink has failed.

@@ -13,8 +13,10 @@ const WRITES_WITHIN: u64 = WRITES + 2 * 2 + 3;
 // The array; one move of each side; a bishop too many; a lone king against a king; more men than a side has, which is
 // no captured man; men that one man cannot all be; and lengths that leave moves over, none, or are too short. Captures
 // land on one square, on two, on three to eight, which are named, on more, or nowhere; there are men who never move; of
-// some lengths nothing is known, and some have no game. The nodes to expect are 10^(-0.6 + 0.65 slack + 0.26 plies),
-// rounded to a digit, the slack of both sides being what the least moves of their men leave.
+// some lengths nothing is known, and some have no game. The nodes to expect are a twentieth to twenty times of 10^(0.6 +
+// 0.28 plies, 14 at most, + 0.08 for each man who may move, 11 at most, - 0.28 for each man captured, 4 at most), each
+// rounded to a digit; without journeys 10^(-0.6 + 0.65 slack + 0.26 plies), the slack of both sides being what the least
+// moves of their men leave. Nothing is expected where the least length is shorter by more than four plies.
 const LINES: &str =
     "show | array => white 16 men, captured 0, needs 0 plies$black 16 men, captured 0, needs 0 plies$\
 no game is shorter than 0.0$
@@ -36,14 +38,14 @@ within | schweig | 4.0 => white 15 men, captured 2, needs 2 plies (captures), 2 
 black 14 men, captured 1, needs 1 ply (captures), 3 left over$\
 white never moved: Ra1, Bc1, Qd1, Ke1, Bf1, Rh1, a2, b2, c2, d2, e2, f2, g2, h2$\
 black never moved: a7, b7, c7, f7, g7, h7$no game is shorter than 3.5$\
-a search by journeys may visit 2 thousand to 200 thousand nodes, as a guess; without journeys ten times more, or worse$
+a search by journeys may visit 40 to 20 thousand nodes, as a guess; without journeys ten times more, or worse$
 within | rnb1kbnr/ppp1pppp/8/3q4/8/8/PPPP1PPP/RNBQKBNR | 2.0 => \
 white 15 men, captured 1, needs 1 ply (captures), 1 left over$\
 black 15 men, captured 1, needs 1 ply (captures), 1 left over$\
 white captures on d5 alone; never moved: Ra1, Nb1, Bc1, Qd1, Ke1, Bf1, Ng1, Rh1, a2, b2, c2, d2, f2, g2, h2$\
 black captures on d5 alone; never moved: a7, b7, c7, e7, f7, g7, h7, Ra8, Nb8, Bc8, Ke8, Bf8, Ng8, Rh8$\
 no game is shorter than 2.0$\
-a search by journeys may visit 2 to 200 nodes, as a guess; without journeys ten times more, or worse$
+a search by journeys may visit 1 to 500 nodes, as a guess$
 within | array | 0.0 => white 16 men, captured 0, needs 0 plies, 0 left over$\
 black 16 men, captured 0, needs 0 plies, 0 left over$\
 white captures nothing; never moved: Ra1, Nb1, Bc1, Qd1, Ke1, Bf1, Ng1, Rh1, a2, b2, c2, d2, e2, f2, g2, h2$\
@@ -53,38 +55,38 @@ within | array | 0.5 => white 16 men, captured 0, needs 0 plies, 1 left over$\
 black 16 men, captured 0, needs 0 plies, 0 left over$\
 white captures nothing; never moved: Ra1, Nb1, Bc1, Qd1, Ke1, Bf1, Ng1, Rh1, a2, b2, c2, d2, e2, f2, g2, h2$\
 black captures nothing; never moved: a7, b7, c7, d7, e7, f7, g7, h7, Ra8, Nb8, Bc8, Qd8, Ke8, Bf8, Ng8, Rh8$\
-no game is shorter than 0.0$a search by journeys may visit 1 to 80 nodes, as a guess$
+no game is shorter than 0.0$a search by journeys may visit 1 to 200 nodes, as a guess$
 within | array | 1.5 => white 16 men, captured 0, needs 0 plies, 2 left over$\
 black 16 men, captured 0, needs 0 plies, 1 left over$\
 white captures nothing; never moved: Bc1, Bf1, a2, b2, c2, d2, e2, f2, g2, h2$\
 black captures nothing; never moved: a7, b7, c7, d7, e7, f7, g7, h7, Ra8, Nb8, Bc8, Qd8, Ke8, Bf8, Ng8, Rh8$\
-no game is shorter than 0.0$a search by journeys may visit 200 to 20 thousand nodes, as a guess$
+no game is shorter than 0.0$a search by journeys may visit 4 to 2 thousand nodes, as a guess$
+within | array | 2.0 => white 16 men, captured 0, needs 0 plies, 2 left over$\
+black 16 men, captured 0, needs 0 plies, 2 left over$\
+white captures nothing; never moved: Bc1, Bf1, a2, b2, c2, d2, e2, f2, g2, h2$\
+black captures nothing; never moved: a7, b7, c7, d7, e7, f7, g7, h7, Bc8, Bf8$no game is shorter than 0.0$\
+a search by journeys may visit 20 to 8 thousand nodes, as a guess$
 within | array | 3.0 => white 16 men, captured 0, needs 0 plies, 3 left over$\
 black 16 men, captured 0, needs 0 plies, 3 left over$\
 white captures nothing; never moved: Bc1, Bf1, a2, b2, c2, d2, e2, f2, g2, h2$\
-black captures nothing; never moved: a7, b7, c7, d7, e7, f7, g7, h7, Bc8, Bf8$no game is shorter than 0.0$\
-a search by journeys may visit 20 thousand to 2 million nodes, as a guess$
+black captures nothing; never moved: a7, b7, c7, d7, e7, f7, g7, h7, Bc8, Bf8$no game is shorter than 0.0$
 within | array | 4.5 => white 16 men, captured 0, needs 0 plies, 5 left over$\
 black 16 men, captured 0, needs 0 plies, 4 left over$\
 white captures nothing; never moved: Bc1, Bf1, a2, b2, c2, d2, e2, f2, g2, h2$\
-black captures nothing; never moved: a7, b7, c7, d7, e7, f7, g7, h7, Bc8, Bf8$no game is shorter than 0.0$\
-a search by journeys may visit 20 thousand to 2 million nodes, as a guess; without journeys ten times more, or worse$
+black captures nothing; never moved: a7, b7, c7, d7, e7, f7, g7, h7, Bc8, Bf8$no game is shorter than 0.0$
 within | array | 6.0 => white 16 men, captured 0, needs 0 plies, 6 left over$\
 black 16 men, captured 0, needs 0 plies, 6 left over$\
 white captures nothing; never moved: Bc1, Bf1, a2, b2, c2, d2, e2, f2, g2, h2$\
-black captures nothing; never moved: a7, b7, c7, d7, e7, f7, g7, h7, Bc8, Bf8$no game is shorter than 0.0$\
-a search by journeys may visit 20 thousand to 2 million nodes, as a guess; without journeys ten times more, or worse$
+black captures nothing; never moved: a7, b7, c7, d7, e7, f7, g7, h7, Bc8, Bf8$no game is shorter than 0.0$
 within | array | 7.0 => white 16 men, captured 0, needs 0 plies, 7 left over$\
 black 16 men, captured 0, needs 0 plies, 7 left over$\
 white captures nothing; never moved: Bc1, Bf1, a2, b2, c2, d2, e2, f2, g2, h2$\
-black captures nothing; never moved: a7, b7, c7, d7, e7, f7, g7, h7, Bc8, Bf8$no game is shorter than 0.0$\
-a search by journeys may visit 20 thousand to 2 million nodes, as a guess; without journeys ten times more, or worse$
+black captures nothing; never moved: a7, b7, c7, d7, e7, f7, g7, h7, Bc8, Bf8$no game is shorter than 0.0$
 within | rnbqkbnr/ppp2ppp/8/3pp3/3PP3/8/PPP2PPP/RNBQKBNR | 4.5 => \
 white 16 men, captured 0, needs 2 plies (travel), 3 left over$\
 black 16 men, captured 0, needs 2 plies (travel), 2 left over$\
 white captures nothing; never moved: a2, b2, c2, f2, g2, h2$\
-black captures nothing; never moved: a7, b7, c7, f7, g7, h7$no game is shorter than 2.0$\
-a search by journeys may visit 40 thousand to 4 million nodes, as a guess$
+black captures nothing; never moved: a7, b7, c7, f7, g7, h7$no game is shorter than 2.0$
 within | after-e4-e5 | 0.5 => white 16 men, captured 0, needs 1 ply (travel), 0 left over$\
 black 16 men, captured 0, needs 1 ply (travel), 1 short$no game of 0.5 moves$no game is shorter than 1.0$
 within | rnbqk1nN/pppp1p2/8/4p2p/7b/8/PPPPPPP1/RNBQKBNR | 4.5 => \
@@ -92,28 +94,27 @@ white 16 men, captured 2, needs 5 plies (travel, pair by pair), 0 left over$\
 black 14 men, captured 0, needs 4 plies (travel), 0 left over$\
 white captures on g7 or h8 alone; never moved: Ra1, Nb1, Bc1, Qd1, Ke1, Bf1, Ng1, Rh1, a2, b2, c2, d2, e2, f2, g2$\
 black captures nothing; never moved: a7, b7, c7, d7, f7, Ra8, Nb8, Bc8, Qd8, Ke8, Ng8$no game is shorter than 4.5$\
-a search by journeys may visit 20 to 2 thousand nodes, as a guess$
+a search by journeys may visit 50 to 20 thousand nodes, as a guess$
 within | en-passant | 2.5 => white 16 men, captured 1, needs 3 plies (travel), 0 left over$\
 black 15 men, captured 0, needs 1 ply (travel), 1 left over$\
 white captures on d5 or d6 alone; never moved: Ra1, Nb1, Bc1, Qd1, Ke1, Bf1, Ng1, Rh1, a2, b2, c2, d2, f2, g2, h2$\
 black captures nothing; never moved: b7, c7, e7, f7, g7, h7, Ra8, Nb8, Bc8, Qd8, Ke8, Bf8, Ng8, Rh8$\
-no game is shorter than 2.5$a search by journeys may visit 4 to 400 nodes, as a guess$
+no game is shorter than 2.5$a search by journeys may visit 5 to 2 thousand nodes, as a guess$
 within | 2bqr1k1/2p1ppbp/1pp4p/7n/r2P3P/8/P1P1PPP1/RNB1KBNR | 9.5 => \
 white 14 men, captured 2, needs 2 plies (captures), 8 left over$\
 black 14 men, captured 2, needs 9 plies (travel), 0 left over$\
 white captures on a7, b7, d7 or b8 alone; never moved: Bf1, a2, c2, e2, f2, g2$\
 black captures on a4, h5, b6, c6, f6, h6, g7 or e8 alone; never moved: c7, e7, f7, h7, Bc8, Qd8$\
 no game is shorter than 9.0$\
-a search by journeys may visit 1 thousand to 100 thousand nodes, as a guess; without journeys ten times more, or worse$
+a search by journeys may visit 1 thousand to 400 thousand nodes, as a guess; without journeys ten times more, or worse$
 within | 4r1k1/2p1ppbp/1p5p/2N2b1n/2rP4/q3P3/P1P1BPPP/RNB1K1NR | 12.0 => \
 white 15 men, captured 3, needs 10 plies (travel, pair by pair), 2 left over$\
 black 13 men, captured 1, needs 12 plies (travel), 0 left over$\
 white captures on a7, d7 or b8 alone; never moved: Ra1, Nb1, Bc1, Ke1, Ng1, Rh1, a2, c2, f2, g2, h2$\
 black never moved: c7, e7, f7, h7$no game is shorter than 12.0$\
-a search by journeys may visit 900 to 90 thousand nodes, as a guess; without journeys ten times more, or worse$
+a search by journeys may visit 1 thousand to 400 thousand nodes, as a guess; without journeys ten times more, or worse$
 within | 4k3/8/8/8/8/8/8/4K3 | 30.0 => white 1 man, captured 15, needs 15 plies (captures), 15 left over$\
-black 1 man, captured 15, needs 15 plies (captures), 15 left over$no game is shorter than 15.0$\
-a search by journeys may visit 20 million to 2 billion nodes, as a guess; without journeys ten times more, or worse$
+black 1 man, captured 15, needs 15 plies (captures), 15 left over$no game is shorter than 15.0$
 within | 4k3/8/8/8/8/8/8/4K3 | 10.0 => white 1 man, captured 15, needs 15 plies (captures), 5 short$\
 black 1 man, captured 15, needs 15 plies (captures), 5 short$no game of 10.0 moves$no game is shorter than 15.0$
 within | rnbqkbnr/pppppppp/8/8/8/3B4/PPPPPPPP/RN1QKBNR | 4.0 => \
