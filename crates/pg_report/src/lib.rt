@@ -1,6 +1,5 @@
 //! What the program does with what it is asked: a check of a certificate and its report, the report of the games that a
-//! certificate proves, what is said at once of a diagram, and the status of each fault; and all that the program uses
-//! of the crates below.
+//! certificate proves, what is said at once of a diagram, and the status of each fault; and names of the crates below.
 #![tactic(auto)]
 
 mod answering;
@@ -25,7 +24,7 @@ pub use statuses::{
     verdict_status,
 };
 
-// What the program uses of the crates below.
+// Names of the crates below: the program takes most of these from here, and others from where they stand.
 pub use pg_captures::{Bound, Captures, Promotions};
 pub use pg_certificate::{FromRead, Refused, Sink, Source, ToWrite, WriteFault};
 pub use pg_checker::{AnswerFault, Fault, Problem, RunFault, check};
