@@ -1,57 +1,56 @@
 #!/usr/bin/env bash
-# How far a search reaches, with journeys and without: of problems by chance, 30 of each of five lengths, and of such whose colours have little to
-# spare, 10 of each of three, how many are settled within ten million nodes and a minute of CPU time, the check included. A problem is where a game
-# ends whose moves are drawn by `bench_checks chance SEED MOVES COUNT [SLACK]`, mostly of men who have moved before; with SLACK the bound by journeys
-# excludes all games to it that are shorter by more plies. Where a search meets a shorter game, the problem is asked for that length. It is settled where a report
-# comes, or where the search meets more games than a report has room for, so that the problem is not sound: how many were settled so stands
-# behind a plus. Prints a row for each length, with the words that make its problems. It measures, and holds nothing. `bench/reach.sh MOVES..` does
-# these lengths alone. PG may name the program.
+# What a judge gets of `pg judge --journeys --minutes 1`: of 60 problems near sound ones, drawn by `bench/near-sound.py SEED COUNT`, with the author's game
+# and without; of problems by chance, 30 of each of five lengths, where a game ends whose moves are drawn by `bench_checks chance SEED MOVES COUNT [SLACK]`,
+# mostly of men who have moved before; and of such with little to spare, 10 of each of three lengths: with SLACK the bound by journeys excludes all games to
+# each position of the game that are shorter by more plies. Prints a row for each kind of problem: how many have which verdict, and the seconds that all took
+# by the clock, as the minute is, with the share of a core. The rows of judge go to standard error. It measures, and holds only that an author's game solves
+# its problem.
+# `bench/reach.sh KIND..` does these kinds alone: near, bare (without the game), or moves. PG may name the program, BENCH_CHECKS the built bench_checks.
 set -u
 top=$(cd "$(dirname "$(readlink -f "$0")")/.." && pwd)
 work=$(mktemp -d) || exit 1
 trap 'rm -rf "$work"' EXIT
 [ -n "${PG-}" ] || "$top/pg" --help >/dev/null || { echo "the program does not run" >&2; exit 1; } # builds it where that is due
 pg=${PG:-$top/crates/pg_cli/out/pg_cli}
-bench="$top/crates/bench_checks/out/bench_checks"
-(cd "$top/crates/bench_checks" && rt run >/dev/null 2>&1)
+[ -n "${BENCH_CHECKS-}" ] || (cd "$top/crates/bench_checks" && rt run >/dev/null 2>&1)
+bench=${BENCH_CHECKS:-$top/crates/bench_checks/out/bench_checks}
+TIMEFORMAT='%0R, %P %%'
+wrong=0
 
-# What a search says of the problem of the diagram $1 and the length $2, with the words behind it.
-said() { (ulimit -t 60 && exec "$pg" search "$1" "$2" "$work/certificate" --nodes 10000000 "${@:3}") 2>&1 | tail -n 1; }
-
-# How the problem is settled, with these words: by a report, by too many games, or not at all.
-settled() {
-  local length=$2 last plies
-  while last=$(said "$1" "$length" "${@:3}") && [[ $last == 'pg: a game of '* ]]; do
-    plies=${last//[^0-9]/}
-    length=$((plies / 2)).$((plies % 2 * 5))
-  done
-  case $last in
-    sound | cooked | 'no game') echo report ;;
-    'pg: more than 4096 games') echo games ;;
-    *) echo open ;;
+# Prints the problems of a kind, drawn by the words behind it, as judge reads them.
+problems() {
+  case $1 in
+    near) "$top/bench/near-sound.py" "${@:2}" ;;
+    bare) "$top/bench/near-sound.py" "${@:2}" | cut -d ' ' -f 1-3 ;;
+    *) "$bench" chance "${@:2}" | awk -v name="chance-$2-$3-" '{ print name NR, $0 }' ;;
   esac
 }
 
-# How many of the problems are settled, with these words.
-count_settled() {
-  local diagram length
-  while read -r diagram length; do settled "$diagram" "$length" "$@"; done <"$work/problems" >"$work/answers"
-  echo "$(grep -c report "$work/answers") + $(grep -c games "$work/answers")"
-}
-
-echo '| Problems | with journeys | without | of |'
-echo '|---|---|---|---|'
-while read -r seed moves count slack; do
-  [ $# -eq 0 ] || [[ " $* " == *" $moves "* ]] || continue
-  "$bench" chance "$seed" "$moves" "$count" $slack >"$work/problems" || exit 1
-  echo "| \`chance $seed $moves $count${slack:+ $slack}\` | $(count_settled --journeys) | $(count_settled) | $(wc -l <"$work/problems") |"
+echo '| Problems | of | sound | cooked | no game | not sound | not settled | seconds, share of a core |'
+echo '|---|---|---|---|---|---|---|---|'
+while read -r kind drawn; do
+  [ $# -eq 0 ] || [[ " $* " == *" $kind "* ]] || continue
+  # shellcheck disable=SC2086
+  problems "$kind" $drawn >"$work/problems" || exit 1
+  { time "$pg" judge "$work/problems" --journeys --minutes 1 >"$work/rows" 2>"$work/error"; } 2>"$work/time"
+  cat "$work/rows" "$work/error" >&2
+  [ "$kind" != near ] || [ "$(cut -f 4 "$work/rows" | sort -u)" = solves ] || wrong=1
+  [ "$(wc -l <"$work/rows")" = "$(wc -l <"$work/problems")" ] || wrong=1
+  row="| $kind: $drawn | $(wc -l <"$work/problems") |"
+  for verdict in sound cooked 'no game' 'not sound' 'not settled'; do
+    row+=" $(cut -f 3 "$work/rows" | grep -cx "$verdict") |"
+  done
+  echo "$row $(cat "$work/time") |"
 done <<'END'
-8 8 30
-10 10 30
-12 12 30
-15 15 30
-20 20 30
-15 15 10 1
-20 20 10 1
-25 25 10 1
+near 1 60
+bare 1 60
+8 8 8 30
+10 10 10 30
+12 12 12 30
+15 15 15 30
+20 20 20 30
+tight-15 15 15 10 1
+tight-20 20 20 10 1
+tight-25 25 25 10 1
 END
+exit "$wrong"
