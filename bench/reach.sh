@@ -5,7 +5,7 @@
 # each position of the game that are shorter by more plies. Prints a row for each kind of problem: how many have which verdict, and the seconds that all took
 # by the clock, as the minute is, with the share of a core. The rows of judge go to standard error. It measures, and holds only that an author's game solves
 # its problem.
-# `bench/reach.sh KIND..` does these kinds alone: near, bare (without the game), or moves. PG may name the program, BENCH_CHECKS the built bench_checks.
+# `bench/reach.sh KIND..` does these kinds alone: near, bare (without the game), 8 to 20, tight-15 to tight-25. PG may name the program, BENCH_CHECKS the built bench_checks.
 set -u
 top=$(cd "$(dirname "$(readlink -f "$0")")/.." && pwd)
 work=$(mktemp -d) || exit 1
@@ -34,8 +34,8 @@ while read -r kind drawn; do
   problems "$kind" $drawn >"$work/problems" || exit 1
   { time "$pg" judge "$work/problems" --journeys --minutes 1 >"$work/rows" 2>"$work/error"; } 2>"$work/time"
   cat "$work/rows" "$work/error" >&2
-  [ "$kind" != near ] || [ "$(cut -f 4 "$work/rows" | sort -u)" = solves ] || wrong=1
-  [ "$(wc -l <"$work/rows")" = "$(wc -l <"$work/problems")" ] || wrong=1
+  [ "$kind" != near ] || [ "$(cut -f 4 "$work/rows" | sort -u)" = solves ] || { echo "$kind: a game does not solve its problem" >&2; wrong=1; }
+  [ "$(wc -l <"$work/rows")" = "$(wc -l <"$work/problems")" ] || { echo "$kind: a problem has no row" >&2; wrong=1; }
   row="| $kind: $drawn | $(wc -l <"$work/problems") |"
   for verdict in sound cooked 'no game' 'not sound' 'not settled'; do
     row+=" $(cut -f 3 "$work/rows" | grep -cx "$verdict") |"
