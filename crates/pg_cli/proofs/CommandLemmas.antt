@@ -1,10 +1,9 @@
 -- No two commands have one name, and what that says of a status.
 use Rattle.std.proofs.Common.{◌≡◌, ◌∙◌, ℕ, List, ◌+◌, ◌*◌, eqb, cond, refl, sym, subst, ap, slice_index}
-use Rattle.std.specs.Prelude.{◌↔◌, Option, Some, Result, Ok, Err, IfOk, option_map, unwrap_or}
+use Rattle.std.specs.Prelude.{◌↔◌, Option, Some, Result, Ok, Err, IfOk, IfErr, option_map, unwrap_or}
 use Rattle.clap.specs.Words.{Row, Text, subcommand_name_of, subcommand_rows_of}
 use Rattle.clap.specs.declared.parser.matches.ArgMatches.{ArgMatches}
-use Rattle.pg_board.specs.Placement.{Placement}
-use Rattle.pg_cli.specs.Words.{name_of, says, IsMeant, IsSubcommand}
+use Rattle.pg_cli.specs.Words.{name_of, OfCommand}
 use Rattle.pg_cli.specs.declared.commands.Command.{Command}
 use Rattle.pg_cli.specs.declared.commands.Command.TheVariants.{Show, Moves, Count, Games, Cooks, Check, Answer, Search, Judge, Why, Page, Upgrade}
 use Rattle.pg_cli.specs.declared.refusals.Refusal.{Refusal}
@@ -41,19 +40,26 @@ is_named name k n command = (
   λ e. ap (λ (c : Command). Some c) (sym (told_back k) ∙ ap (λ (t : Text). of_key (key t)) (sym n ∙ e) ∙ told_back command),
 )
 
--- what is said of the command is said of what its name asks for
-pub is_meant : (Names : Placement → ℕ → Type 0) (name : Text) (rows : List Row) (k : Command) (result : Result ℕ Refusal)
-    → ((command : Command) → (Some k ≡ Some command) ↔ (name ≡ name_of command))
-    → IfOk result (λ s. says Names k rows s) → IfOk result (λ s. IsMeant Names name rows s)
-is_meant Names name rows k (Ok s) f h = λ command e. subst (λ (c : Command). says Names c rows s) (the_one k command ((f command).1 e)) h
-is_meant Names name rows k (Err x) f h = tt
-
--- what is said of the command that was taken out is said of the one that the words name
-pub carried : (words : ArgMatches) (name : Text) (rows : List Row) (P : Text → List Row → ℕ → Type 0) (result : Result ℕ Refusal)
+-- what is so of the command that was taken out is so of the one that the words name
+pub named : (words : ArgMatches) (name : Text) (rows : List Row) (k : Command) (Is : Command → List Row → Type 0)
     → Some name ≡ subcommand_name_of words → Some rows ≡ option_map (λ p. p.1) (subcommand_rows_of words)
-    → IfOk result (λ s. P name rows s) → IfOk result (λ s. (n : Text) (r : List Row) → IsSubcommand words n r → P n r s)
-carried words name rows P (Ok s) e f h = λ n r k.
-    let en : name ≡ n = ap (λ (o : Option Text). unwrap_or o name) (e ∙ k.0) in
-    let er : rows ≡ r = ap (λ (o : Option (List Row)). unwrap_or o rows) (f ∙ k.1) in
-    subst (λ (x : Text). P x r s) en (subst (λ (y : List Row). P name y s) er h)
-carried words name rows P (Err x) e f h = tt
+    → ((command : Command) → (Some k ≡ Some command) ↔ (name ≡ name_of command)) → Is k rows → OfCommand words Is
+named words name rows k Is e f told h = λ n r is command same.
+    let en : name ≡ n = ap (λ (o : Option Text). unwrap_or o name) (e ∙ is.0) in
+    let er : rows ≡ r = ap (λ (o : Option (List Row)). unwrap_or o rows) (f ∙ is.1) in
+    let ek : k ≡ command = the_one k command ((told command).1 (en ∙ same)) in
+    subst (λ (y : List Row). Is command y) er (subst (λ (c : Command). Is c rows) ek h)
+
+pub answer_named : (words : ArgMatches) (name : Text) (rows : List Row) (k : Command) (Is : Command → List Row → ℕ → Type 0) (result : Result ℕ Refusal)
+    → Some name ≡ subcommand_name_of words → Some rows ≡ option_map (λ p. p.1) (subcommand_rows_of words)
+    → ((command : Command) → (Some k ≡ Some command) ↔ (name ≡ name_of command)) → IfOk result (λ s. Is k rows s)
+    → IfOk result (λ s. OfCommand words (λ c r. Is c r s))
+answer_named words name rows k Is (Ok s) e f told h = named words name rows k (λ c r. Is c r s) e f told h
+answer_named words name rows k Is (Err x) e f told h = tt
+
+pub refusal_named : (words : ArgMatches) (name : Text) (rows : List Row) (k : Command) (Is : Command → List Row → Refusal → Type 0) (result : Result ℕ Refusal)
+    → Some name ≡ subcommand_name_of words → Some rows ≡ option_map (λ p. p.1) (subcommand_rows_of words)
+    → ((command : Command) → (Some k ≡ Some command) ↔ (name ≡ name_of command)) → IfErr result (λ x. Is k rows x)
+    → IfErr result (λ x. OfCommand words (λ c r. Is c r x))
+refusal_named words name rows k Is (Ok s) e f told h = tt
+refusal_named words name rows k Is (Err x) e f told h = named words name rows k (λ c r. Is c r x) e f told h

@@ -1,4 +1,6 @@
 pub mod CommandLemmas
+pub mod EndLemmas
+pub mod JudgeLemmas
 pub mod KnowingLemmas
 pub mod ShowLemmas
 pub mod StatusLemmas

@@ -15,7 +15,10 @@ use Rattle.pg_searcher.specs.declared.fault.SearchFault.TheVariants as search
 use Rattle.pg_san.specs.Listing.{IsListing}
 use Rattle.pg_checker.specs.ProblemText.{IsProblemFault}
 use Rattle.pg_checker.specs.Terms.{Terms}
+use Rattle.pg_checker.specs.declared.fault.Fault.TheVariants.{Listed as Unfit}
 use Rattle.pg_checker.specs.declared.fault.RunFault.{RunFault}
+use Rattle.pg_checker.specs.declared.fault.RunFault.TheVariants.{Check as CheckFault}
+use Rattle.pg_cooks.specs.Known.{IsListingFault}
 use Rattle.pg_report.specs.Run.{AreSpelled, Failures, IsRunFault}
 use Rattle.pg_cli.specs.Runs.{AreListed, AreMet, IsCheckRefusal, IsFoundRefusal, IsGivenUp, IsSearchRefusal, search_refusal}
 use Rattle.pg_cli.specs.Words.{spelled, IsNumber, IsSpelled}
@@ -115,5 +118,13 @@ given_up d n search.Memory known h k = tt
 pub unfound : (d : Placement) (n : ℕ) (list : List (List Move)) (t : Terms) (failed : Failures) (result : Result ℕ Refusal)
     → IfErr result (λ r. IsFoundRefusal d n list t failed r) → IfErr result (λ r. IsSearchRefusal d n r)
 unfound d n list t failed (Ok s) h = tt
+unfound d n list t failed (Err (Check (CheckFault fault))) h = (list, h.2)
 unfound d n list t failed (Err (Check fault)) h = tt
 unfound d n list t failed (Err r) h = absurd h
+
+-- or where a game that it met is not written as a solution
+pub unlisted : (d : Placement) (n : ℕ) (list : List (List Move)) (failed : Bool) (fault : RunFault) → IsListingFault d n list failed fault
+    → IsSearchRefusal d n (Check fault)
+unlisted d n list failed (CheckFault (Unfit fault)) h = ([], tt)
+unlisted d n list failed (CheckFault fault) h = absurd h
+unlisted d n list failed fault h = tt

@@ -1,11 +1,16 @@
 -- What a run appended to a buffer stands in the sink below it, once all of it is handed on.
-use Rattle.std.proofs.Common.{ℕ, List}
+use Rattle.std.proofs.Common.{◌⊎◌, inl, inr, ◌++◌, ℕ, Bool, List, codes}
 use Rattle.std.proofs.KnownBytes.{Appends-kept}
 use Rattle.std.specs.Prelude.{Option}
 use Rattle.std.specs.Io.KnownBytes.{Keeps, append_known}
 use Rattle.pg_certificate.specs.Pushing.{AddsSome}
+use Rattle.pg_board.specs.Placement.{Placement}
+use Rattle.pg_checker.specs.Terms.{Terms}
+use Rattle.pg_guide.specs.Why.{AddsRight, HasAnswer}
+use Rattle.pg_page.specs.Page.{IsShown}
 use Rattle.pg_streams.specs.Buffer.{sink_of}
 use Rattle.pg_streams.specs.declared.gathered.Gathered.{Gathered}
+use Rattle.pg_cli.specs.Answers.{HasList}
 
 -- what a buffer counts as held
 abbrev pub held_by : {W : Type 0} → (W → Option (List ℕ)) → Gathered W → Option (List ℕ)
@@ -16,3 +21,17 @@ pub handed : {W : Type 0} (held : W → Option (List ℕ)) (old mid new : Gather
     → AddsSome Is (held_by held old) (held_by held mid) → Keeps (held_by held mid) (held (sink_of new))
     → AddsSome Is (held_by held old) (held (sink_of new))
 handed held old mid new Is h k = (h.0, h.1, Appends-kept (held_by held old) (held_by held mid) (held (sink_of new)) h.0 h.2 k)
+
+-- what was appended stands there still where known bytes stay
+pub right_kept : (a b c : Option (List ℕ)) → AddsRight a b → Keeps b c → AddsRight a c
+unfolding AddsRight
+right_kept a b c (lines, adds) k = (lines, Appends-kept a b c (lines ++ codes "the certificate is right\n") adds k)
+
+pub page_kept : (t : Terms) (d : Placement) (n : ℕ) (j : Bool) (a b c : Option (List ℕ)) → IsShown t d n j a b → Keeps b c → IsShown t d n j a c
+page_kept t d n j a b c (games, exact, proved, (head, rest, is, adds)) k =
+    (games, exact, proved, (head, rest, is, Appends-kept a b c (head ++ rest) adds k))
+
+-- with an answer a list is the exact one
+pub or_list : {P : Type 0} (t : Terms) (d : Placement) (n : ℕ) → P ⊎ HasAnswer t d n → P ⊎ HasList d n
+or_list t d n (inl h) = inl h
+or_list t d n (inr h) = inr (h.0.games, h.1)

@@ -1,9 +1,13 @@
--- What the status of a check or a search says, where it comes with a report.
-use Rattle.std.specs.Prelude.{◌≡◌, ℕ, List, Option, IfSome}
+-- What the status of a check or a search says, where it comes with a report; and what files give.
+use Rattle.std.specs.Prelude.{◌≡◌, ◌↔◌, ℕ, List, Option, IfSome, IsFalse, codes}
+use Rattle.either.specs.Either.{either, is_left}
+use Rattle.either.specs.declared.Either.{Either}
+use Rattle.clap.specs.Words.{Text}
 use Rattle.pg_board.specs.Placement.{Placement}
 use Rattle.pg_position.specs.declared.moves.Move.{Move}
 use Rattle.pg_checker.specs.Answer.{IsExactAnswer}
 use Rattle.pg_checker.specs.Terms.{Terms}
+use Rattle.pg_files.specs.Inputs.{IsAll}
 use Rattle.pg_texts.specs.Report.{IsVerdict}
 use Rattle.pg_report.specs.Answering.{IsReported}
 use Rattle.pg_report.specs.Naming.{Begins, IsNamed}
@@ -38,6 +42,11 @@ HasAnswer d n status = (list : List (List Move)) × IsAnswered d n list status
 -- the bytes of some opened file, where they are known, begin with a header that names this diagram and this length
 abbrev pub IsNamedIn : {F : Type 0} → (F → Option (List ℕ)) → Placement → ℕ → Type 0
 IsNamedIn {F} remaining d n = (file : F) × IfSome (remaining file) (Begins (λ h. IsNamed h d n))
+
+-- these are the bytes of some opened file or, where the name is a hyphen, of some standard input, where those are known
+abbrev pub IsGivenBy : {F R : Type 0} → (F → Option (List ℕ)) → (R → Option (List ℕ)) → Text → List ℕ → Type 0
+IsGivenBy {F} {R} file input name bytes = (source : Either F R) × (IsFalse (is_left source) ↔ (name ≡ codes "-"))
+    × IsAll (either file input source) bytes
 
 -- so it is for a diagram and a length that are named so
 abbrev pub IsAnsweredBySome : (Placement → ℕ → Type 0) → ℕ → Type 0

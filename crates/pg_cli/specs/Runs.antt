@@ -12,6 +12,7 @@ use Rattle.pg_fen.specs.DiagramText.{diagram_of}
 use Rattle.pg_fen.specs.Lengths.{length_of}
 use Rattle.pg_checker.specs.Answer.{AreSolutions}
 use Rattle.pg_checker.specs.ProblemText.{IsProblemFault}
+use Rattle.pg_checker.specs.Telling.{Tells}
 use Rattle.pg_checker.specs.Terms.{Terms}
 use Rattle.pg_checker.specs.declared.fault.Fault.TheVariants.{Listed as Unfit}
 use Rattle.pg_checker.specs.declared.fault.RunFault.TheVariants.{Diagram as CheckDiagram, Length as CheckLength, Games as CheckGames, Check as CheckFault, Write as CheckWrite}
@@ -49,7 +50,22 @@ use Rattle.pg_cli.specs.Knowing.{answer_status}
 use Rattle.pg_cli.specs.Words.{spelled, IsSpelled, SpellsBoard}
 use Rattle.pg_cli.specs.declared.refusals.Known.{Known}
 use Rattle.pg_cli.specs.declared.refusals.Refusal.{Refusal}
-use Rattle.pg_cli.specs.declared.refusals.Refusal.TheVariants.{NoGame, NotUtf8, Read, Write, Memory, Line as NoLine, Show, Moves, Count, Search, Full, GaveUp, Upgrade, Check, Answer}
+use Rattle.pg_cli.specs.declared.refusals.Refusal.TheVariants.{Open, NoGame, NotUtf8, Read, Write, Memory, Line as NoLine, Show, Moves, Count, Search, Full, GaveUp, Upgrade, Check, Answer}
+
+-- ---- files and sinks
+-- a file is not opened, not read or not written, or memory was refused
+abbrev pub IsOfFile : Refusal → Type 0
+IsOfFile (Open name obstacle) = Unit {0}
+IsOfFile Read = Unit {0}
+IsOfFile Write = Unit {0}
+IsOfFile Memory = Unit {0}
+IsOfFile refusal = ⊥
+
+-- the sink refused what was to be written
+abbrev pub IsOfSink : Refusal → Type 0
+IsOfSink (Check CheckWrite) = Unit {0}
+IsOfSink (Answer ReportWrite) = Unit {0}
+IsOfSink refusal = ⊥
 
 -- ---- a position or a diagram
 -- the text spells a position, and the lines of its legal moves are appended
@@ -218,13 +234,15 @@ IsGivenUp n fault = Unit {0}
 abbrev pub AreMet : Placement → ℕ → Known → Type 0
 AreMet d n known = (list : List (List Move)) × AreSolutions d n list × (length_of_list list ≡ known.games)
 
--- a search for games of n plies that end on d has no report: it gave up, or its certificate would be too long, with games
--- that it met; or memory or a file was refused; or the games that it found are not listed, or the check of what it wrote does not say yes
+-- a search for games of n plies that end on d has no report: it gave up, or its certificate would be too long, with
+-- games that it met; or memory or a file was refused; or the games that it found are not listed, or the check of what it
+-- wrote does not say yes, and a game that it calls unlisted, or of fewer plies, is there
 abbrev pub IsSearchRefusal : Placement → ℕ → Refusal → Type 0
 IsSearchRefusal d n (GaveUp fault known) = IsGivenUp n fault × AreMet d n known
 IsSearchRefusal d n (Full known) = AreMet d n known
 IsSearchRefusal d n (Search search.Write) = Unit {0}
 IsSearchRefusal d n (Search search.Memory) = Unit {0}
+IsSearchRefusal d n (Check (CheckFault fault)) = (list : List (List Move)) × Tells d n list (Err fault)
 IsSearchRefusal d n (Check fault) = Unit {0}
 IsSearchRefusal d n Read = Unit {0}
 IsSearchRefusal d n Write = Unit {0}

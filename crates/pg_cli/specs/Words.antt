@@ -13,6 +13,7 @@ use Rattle.pg_texts.specs.MovesText.{SpellsPosition}
 use Rattle.pg_cli.specs.declared.commands.Command.{Command}
 use Rattle.pg_cli.specs.declared.commands.Command.TheVariants.{Show, Moves, Count, Games, Cooks, Check, Answer, Search, Judge, Why, Page, Upgrade}
 use Rattle.pg_cli.specs.Answers.{IsAnswered, IsAnsweredBySome, AreAnswered, HasList}
+use Rattle.pg_cli.specs.Judging.{IsListJudged}
 use Rattle.pg_cli.specs.Knowing.{AreUnsound, AreTested, AreFollowed}
 
 -- the text of the word with this name; no text where there is none
@@ -116,26 +117,27 @@ name_of Why = codes "why"
 name_of Page = codes "page"
 name_of Upgrade = codes "upgrade"
 
--- what a status says of a command with these words, where `Names` is what the header of a certificate names
-abbrev pub says : (Placement → ℕ → Type 0) → Command → List Row → ℕ → Type 0
-says Names Show rows status = HasDiagram rows status
-says Names Moves rows status = HasPosition rows status
-says Names Count rows status = HasFewPlies rows status
-says Names Games rows status = IsTested rows status
-says Names Cooks rows status = IsFollowed rows status
-says Names Check rows status = IsChecked rows status
-says Names Answer rows status = IsAnsweredBySome Names status
-says Names Search rows status = IsSearched rows status
-says Names Judge rows status = status < 3
-says Names Why rows status = IsExplained Names status
-says Names Page rows status = IsExplained Names status
-says Names Upgrade rows status = status ≡ 0
+-- what a status says of a command with these words, where `Names` is what the header of a certificate names, and `Gives`
+-- which bytes the list of a name has
+abbrev pub says : (Placement → ℕ → Type 0) → (Text → List ℕ → Type 0) → Command → List Row → ℕ → Type 0
+says Names Gives Show rows status = HasDiagram rows status
+says Names Gives Moves rows status = HasPosition rows status
+says Names Gives Count rows status = HasFewPlies rows status
+says Names Gives Games rows status = IsTested rows status
+says Names Gives Cooks rows status = IsFollowed rows status
+says Names Gives Check rows status = IsChecked rows status
+says Names Gives Answer rows status = IsAnsweredBySome Names status
+says Names Gives Search rows status = IsSearched rows status
+says Names Gives Judge rows status = IsListJudged Gives (spelled (codes "PROBLEMS") rows) status
+says Names Gives Why rows status = IsExplained Names status
+says Names Gives Page rows status = IsExplained Names status
+says Names Gives Upgrade rows status = status ≡ 0
 
--- what a status says of the command with this name, and with these words
-abbrev pub IsMeant : (Placement → ℕ → Type 0) → Text → List Row → ℕ → Type 0
-IsMeant Names name rows status = (command : Command) → name ≡ name_of command → says Names command rows status
+-- so it is of the command that the words name, and of its words
+abbrev pub OfCommand : ArgMatches → (Command → List Row → Type 0) → Type 0
+OfCommand words Is = (name : Text) (rows : List Row) → IsSubcommand words name rows
+    → (command : Command) → name ≡ name_of command → Is command rows
 
 -- what a status says of the command that the words name
-abbrev pub IsStatus : (Placement → ℕ → Type 0) → ArgMatches → ℕ → Type 0
-IsStatus Names words status =
-    (name : Text) (rows : List Row) → IsSubcommand words name rows → IsMeant Names name rows status
+abbrev pub IsStatus : (Placement → ℕ → Type 0) → (Text → List ℕ → Type 0) → ArgMatches → ℕ → Type 0
+IsStatus Names Gives words status = OfCommand words (λ command rows. says Names Gives command rows status)

@@ -9,7 +9,7 @@ ghost use Rattle.pg_report.specs.declared.fault.AnswerRunFault.{AnswerRunFault};
 ghost use Rattle.pg_report.specs.Run.{failures};
 ghost use Rattle.pg_streams.specs.Buffer.{sink_of};
 ghost use Rattle.pg_cli.specs.Answers.{HasAnswer, IsAnsweredBySome, IsHandedAnswer, IsNamedIn};
-ghost use Rattle.pg_cli.specs.Runs.{IsAnswerRefusal};
+ghost use Rattle.pg_cli.specs.Runs.{IsAnswerRefusal, IsOfSink};
 ghost use Rattle.pg_cli.specs.Words.{ByRecords};
 
 use crate::checking::finished;
@@ -33,7 +33,8 @@ use std::rt::Runtime;
 // on then.
 //
 // # Errors
-// `Answer` with the fault of the run, or `Check` with `Write` where the rest of the report is refused.
+// `Answer` with the fault of the run, or `Check` with `Write` where the rest of the report is refused. Nothing is written
+// then, but where the sink refuses it.
 pub(crate) fn answer_on<S: Source, W: Sink>(
     alloc: Global,
     words: &ArgMatches<'_>,
@@ -52,6 +53,7 @@ pub(crate) fn answer_on<S: Source, W: Sink>(
         (terms (any_rules_by code_of excluded bounds.now) records MOST_NAMED (S.left source.old))
         problem.now.diagram problem.now.length
         (failures (S.has_failed source.new) (⟦<Gathered<W> as Sink>⟧.has_failed out.new)) refusal)) }
+    ensures unwritten { IfErr result (λ refusal. ¬ IsOfSink refusal → out.new ≡ out.old) }
 {
     let records = records_of(words);
     match run_answer(alloc, problem, bounds, source, out, records, MOST_NAMED) {

@@ -1,6 +1,6 @@
 //! `pg check`: a certificate is checked for a diagram, a length and a list of games.
 
-ghost use Rattle.std.specs.Prelude.{◌≡◌, true, codes, IfOk, IfErr, OnOk};
+ghost use Rattle.std.specs.Prelude.{◌≡◌, ◌⊎◌, true, codes, IfOk, IfErr, OnOk};
 ghost use Rattle.std.specs.Io.KnownBytes.{Keeps};
 ghost use Rattle.pg_checker.specs.Cuts.{rules_by};
 ghost use Rattle.pg_checker.specs.Terms.{terms};
@@ -10,7 +10,8 @@ ghost use Rattle.pg_report.specs.Run.{failures};
 ghost use Rattle.pg_streams.specs.Buffer.{IsHandedOn, sink_of};
 ghost use Rattle.pg_texts.specs.Report.{IsReport};
 ghost use Rattle.pg_cli.specs.Answers.{AreAnswered};
-ghost use Rattle.pg_cli.specs.Runs.{AddsOf, IsCheckRefusal};
+ghost use Rattle.pg_cli.specs.Ending.{IsUnchecked};
+ghost use Rattle.pg_cli.specs.Runs.{AddsOf, IsCheckRefusal, IsOfFile, IsOfProblem, IsOfSink};
 ghost use Rattle.pg_cli.specs.Words.{ByRecords, IsChecked, spelled};
 
 use crate::refusals::{Named, Refusal};
@@ -47,7 +48,8 @@ pub(crate) fn finished<W: Sink>(status: u8, out: &mut Gathered<W>) -> Result<u8,
 // it has just one game; the report is handed on then.
 //
 // # Errors
-// `NotUtf8` where the list is not UTF-8, else `Check` with the fault of the check.
+// `NotUtf8` where the list is not UTF-8, else `Check` with the fault of the check. Nothing is written then, but where
+// the sink refuses it.
 pub(crate) fn check_on<S: Source, W: Sink>(
     alloc: Global,
     words: &ArgMatches<'_>,
@@ -64,6 +66,7 @@ pub(crate) fn check_on<S: Source, W: Sink>(
         (rows_of (found_of words.now)) list.now
         (terms (rules_by code_of excluded bounds.now) records MOST_NAMED (S.left source.old))
         (failures (S.has_failed source.new) (⟦<Gathered<W> as Sink>⟧.has_failed out.new)) refusal)) }
+    ensures unwritten { IfErr result (λ refusal. ¬ IsOfSink refusal → out.new ≡ out.old) }
 {
     let records = records_of(words);
     let diagram = text_of(words, "DIAGRAM");
@@ -86,7 +89,9 @@ pub(crate) fn games_of<R: Runtime + AllocGlobal>(
     rt: &R,
     words: &ArgMatches<'_>,
     screen: Screen,
-) -> Result<Vec<u8>, Refusal> {
+) -> Result<Vec<u8>, Refusal>
+    ensures { IfErr result (λ refusal. IsOfFile refusal ⊎ IsOfProblem (rows_of (found_of words.now)) refusal) }
+{
     let name = words.get_str("GAMES").unwrap_or(INPUT);
     if is_input(name) && screen.input {
         match problem_in(words) {
@@ -109,7 +114,9 @@ fn other_games_of<R: Runtime + AllocGlobal>(
     rt: &R,
     words: &ArgMatches<'_>,
     screen: Screen,
-) -> Result<Vec<u8>, Refusal> {
+) -> Result<Vec<u8>, Refusal>
+    ensures { IfErr result (λ refusal. IsOfFile refusal ⊎ IsOfProblem (rows_of (found_of words.now)) refusal) }
+{
     let certificate = text_of(words, "CERT");
     if let Some(name) = words.get_str("GAMES") {
         if lead_to_one(rt, certificate, name) {
@@ -124,7 +131,8 @@ fn other_games_of<R: Runtime + AllocGlobal>(
 
 // `pg check`: the certificate of a file is checked, and the report stands on standard output. A status means
 // that a list is the exact answer to the diagram and the length which the words spell, and 0 that it has one
-// game; the list is that of the file GAMES or of standard input, of which no contract can say what it gives.
+// game; the list is that of the file GAMES or of standard input, of which no contract can say what it gives. A game that
+// is called unlisted is a solution.
 #[inline(never)]
 pub(crate) fn check<R: Runtime + AllocGlobal>(
     rt: &R,
@@ -132,14 +140,18 @@ pub(crate) fn check<R: Runtime + AllocGlobal>(
     bounds: &[Box<dyn Bound>],
     screen: Screen,
 ) -> Result<u8, Refusal>
-    ensures { IfOk result (λ status. IsChecked (rows_of (found_of words.now)) status) }
+    ensures ok { IfOk result (λ status. IsChecked (rows_of (found_of words.now)) status) }
+    ensures err { IfErr result (λ refusal. IsUnchecked (rows_of (found_of words.now)) refusal) }
 {
     let name = text_of(words, "CERT");
     let certificate = match open(rt, name) {
         Ok(certificate) => certificate,
         Err(fault) => return Err(Refusal::of_file(fault, Named::Certificate)),
     };
-    let games = other_games_of(rt, words, screen)?;
+    let games = match other_games_of(rt, words, screen) {
+        Ok(games) => games,
+        Err(refusal) => return Err(refusal),
+    };
     let terminal = Terminal::new(screen.lines);
     let mut source = Passing::new(rt, &terminal, certificate, size_of(rt, name));
     let mut out = Gathered::new(Cleared::new(ToWrite::new(io::writer(rt)), rt, &terminal));

@@ -1,12 +1,12 @@
 //! `pg why`: a certificate explains a line of moves.
-ghost use Rattle.std.specs.Prelude.{◌≡◌, codes, IfOk, IfErr, OnOk};
+ghost use Rattle.std.specs.Prelude.{◌≡◌, ◌⊎◌, codes, IfOk, IfErr, OnOk};
 ghost use Rattle.pg_checker.specs.Cuts.{any_rules_by, rules_by};
 ghost use Rattle.pg_checker.specs.Terms.{terms};
 ghost use Rattle.clap.specs.Words.{found_of, rows_of};
-ghost use Rattle.pg_guide.specs.Why.{failures};
-ghost use Rattle.pg_streams.specs.Buffer.{IsHandedOn};
+ghost use Rattle.pg_guide.specs.Why.{AddsRight, failures};
+ghost use Rattle.pg_streams.specs.Buffer.{sink_of};
 ghost use Rattle.pg_cli.specs.Answers.{HasList, IsNamedIn};
-ghost use Rattle.pg_cli.specs.Runs.{IsWhyRefusal, why_refusal};
+ghost use Rattle.pg_cli.specs.Runs.{IsOfSink, IsWhyRefusal, why_refusal};
 ghost use Rattle.pg_cli.specs.Words.{ByRecords, IsExplained, spelled};
 
 use crate::answering::certificate_of;
@@ -37,7 +37,8 @@ fn refusal_of(fault: WhyFault) -> Refusal
 }
 
 // Explains a line by the certificate that a source gives, and writes what it says. A status means that a list of games
-// is the exact answer to the problem. All that is written is handed on then.
+// is the exact answer to the problem, and that all of it is handed on, of which the last line says that the certificate
+// is right. Where more stands in the sink than before a list is the exact answer too.
 //
 // # Errors
 // `Check` with `Games` where the moves are refused, and `Line` where they are not one game; `Answer` where the
@@ -52,13 +53,16 @@ pub(crate) fn why_on<S: Source, W: Sink>(
 ) -> Result<u8, Refusal>
     ensures right { OnOk result (HasList problem.now.diagram problem.now.length) }
     ensures zero { IfOk result (λ status. status ≡ 0) }
-    ensures handed { OnOk result (IsHandedOn out.new) }
+    ensures told { OnOk result (AddsRight (⟦<Gathered<W> as Sink>⟧.held out.old) (W.held (sink_of out.new))) }
+    ensures silent { (⟦<Gathered<W> as Sink>⟧.held out.new ≡ ⟦<Gathered<W> as Sink>⟧.held out.old)
+        ⊎ HasList problem.now.diagram problem.now.length }
     ensures err { IfErr result (λ refusal. ByRecords (rows_of (found_of words.now)) (λ records. IsWhyRefusal
         (spelled (codes "MOVES") (rows_of (found_of words.now)))
         (terms (rules_by code_of excluded bounds.now) records MOST_NAMED (S.left source.old))
         (terms (any_rules_by code_of excluded bounds.now) records MOST_NAMED (S.left source.old))
         problem.now.diagram problem.now.length
         (failures (S.has_failed source.new) (⟦<Gathered<W> as Sink>⟧.has_failed out.new)) refusal)) }
+    ensures unwritten { IfErr result (λ refusal. ¬ IsOfSink refusal → out.new ≡ out.old) }
 {
     let moves = text_of(words, "MOVES");
     let records = records_of(words);

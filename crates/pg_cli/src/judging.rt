@@ -1,10 +1,17 @@
 //! `pg judge`: the problems of a file are judged one after the other, and each has a row as soon as it is known.
 
-ghost use Rattle.std.specs.Prelude.{◌≡◌, ◌<◌, ℕ, All, IfOk};
-ghost use Rattle.pg_board.specs.Placement.{Placement};
+ghost use Rattle.std.specs.Prelude.{◌≡◌, ◌≢◌, All, IfOk, IfErr, OnOk, codes, false};
+ghost use Rattle.clap.specs.Words.{found_of, rows_of};
+ghost use Rattle.pg_certificate.specs.Pushing.{AddsSome};
+ghost use Rattle.pg_judge.specs.Ruling.{IsFindingOf, IsSoundLine};
+ghost use Rattle.pg_judge.specs.declared.entry.Entry.{Entry};
 ghost use Rattle.pg_san.specs.GameText.{lines};
-ghost use Rattle.pg_cli.specs.Judging.{IsStanding};
-ghost use Rattle.pg_judge.specs.Ruling.{IsFinding, IsSound, IsSoundLine};
+ghost use Rattle.pg_streams.specs.Buffer.{IsHandedOn};
+ghost use Rattle.pg_cli.specs.Answers.{IsGivenBy};
+ghost use Rattle.pg_cli.specs.Judging.{AreJudged, EndsRun, IsCutOff, IsFindingStatus, IsJudged, IsListJudged};
+ghost use Rattle.pg_cli.specs.Judging.{IsRuled, IsSpoiled, IsStanding};
+ghost use Rattle.pg_cli.specs.Runs.{IsOfFile};
+ghost use Rattle.pg_cli.specs.Words.{spelled};
 
 use crate::bounds::{journeys_to, travel_to};
 use crate::keeping::{Loose, OnDisk};
@@ -14,8 +21,8 @@ use crate::screen::Screen;
 use crate::spelling::{say_journeys, say_replace, text_of};
 use clap::ArgMatches;
 use pg_captures::{Bound, Captures, Promotions};
-use pg_certificate::{Sink, ToWrite};
-use pg_checker::{AnswerFault, Problem};
+use pg_certificate::{Refused, Sink, ToWrite};
+use pg_checker::AnswerFault;
 use pg_files::{
     FileFault, FileName, begin_here, is_missing, list, make_folder, open_plain, size_of,
 };
@@ -107,18 +114,30 @@ enum Spoiled {
 }
 
 impl From<AllocError> for Spoiled {
+    ghost use Rattle.std.specs.Prelude.{false};
+
+    ghost from_gives = { λ _ spoiled. IsSpoiled false spoiled };
+
     fn from(_fault: AllocError) -> Spoiled {
         Spoiled::Run(Refusal::Memory)
     }
 }
 
 impl<T: Drop> From<AllocFailed<T>> for Spoiled {
+    ghost use Rattle.std.specs.Prelude.{false};
+
+    ghost from_gives = { λ _ spoiled. IsSpoiled false spoiled };
+
     fn from(_fault: AllocFailed<T>) -> Spoiled {
         Spoiled::Run(Refusal::Memory)
     }
 }
 
 impl From<FileFault> for Spoiled {
+    ghost use Rattle.std.specs.Prelude.{false};
+
+    ghost from_gives = { λ _ spoiled. IsSpoiled false spoiled };
+
     fn from(fault: FileFault) -> Spoiled {
         match fault {
             FileFault::Memory => Spoiled::Run(Refusal::Memory),
@@ -155,7 +174,8 @@ enum Standing {
 
 // What becomes of a problem whose certificate stands there and does not settle it.
 fn unsettled(fault: &AnswerFault, is_over: bool) -> Result<Standing, Spoiled>
-    ensures { (d : Placement) (n : ℕ) → IfOk result (IsStanding d n) }
+    ensures ok { (entry : Entry) → IfOk result (IsStanding entry) }
+    ensures err { IfErr result (IsSpoiled false) }
 {
     match unsettled_of(fault) {
         Unsettled::Bytes => Ok(Standing::Shown(Old::Refused)),
@@ -167,17 +187,18 @@ fn unsettled(fault: &AnswerFault, is_over: bool) -> Result<Standing, Spoiled>
     }
 }
 
-// What a certificate at this path, if one stands there, comes to within the time that a problem has.
+// What a certificate of a problem at this path, if one stands there, comes to within the time that a problem has.
 #[inline(never)]
 fn recheck_at<R: Runtime + AllocGlobal>(
     rt: &R,
-    problem: &Problem,
+    entry: &Entry<'_>,
     bounds: &[Box<dyn Bound>],
     path: &str,
     asked: &Asked<'_>,
     terminal: &Terminal,
 ) -> Result<Standing, Spoiled>
-    ensures { IfOk result (IsStanding problem.now.diagram problem.now.length) }
+    ensures ok { IfOk result (IsStanding entry.now) }
+    ensures err { IfErr result (IsSpoiled false) }
 {
     if is_missing(rt, path) {
         return Ok(Standing::Shown(Old::Absent));
@@ -185,7 +206,7 @@ fn recheck_at<R: Runtime + AllocGlobal>(
     let file = open_plain(rt, path)?;
     let passing = Passing::new(rt, terminal, file, size_of(rt, path));
     let mut source = Until::new(passing, Deadline::new(rt, asked.reach.milliseconds));
-    let found = recheck(rt.alloc(), problem, bounds, &mut source, u64::MAX);
+    let found = recheck(rt.alloc(), entry, bounds, &mut source, u64::MAX);
     let is_over = source.is_over();
     source.into_inner().end();
     match found {
@@ -204,7 +225,8 @@ fn judge_to<R: Runtime + AllocGlobal, P: JudgeProgress>(
     path: &str,
     watch: &mut P,
 ) -> Result<Ruling, Spoiled>
-    ensures { IfOk result (λ r. IsFinding entry.now.problem.diagram entry.now.problem.length r.finding) }
+    ensures ok { IfOk result (λ r. IsFindingOf entry.now r.finding) }
+    ensures err { IfErr result (IsSpoiled false) }
 {
     let draft = begin_here(rt, path)?;
     let handle = match draft.handle() {
@@ -242,7 +264,7 @@ fn judge_loosely<R: Runtime + AllocGlobal, P: JudgeProgress>(
     asked: &Asked<'_>,
     watch: &mut P,
 ) -> Ruling
-    ensures { IsFinding entry.now.problem.diagram entry.now.problem.length result.finding }
+    ensures { IsFindingOf entry.now result.finding }
 {
     let mut scratch = Loose::new(rt, asked.reach.bytes);
     judge_problem(
@@ -265,10 +287,10 @@ fn judge_in<R: Runtime + AllocGlobal>(
     path: &str,
     watch: &mut Watch<'_, R>,
 ) -> Result<Judged, Spoiled>
-    ensures { IfOk result (λ j. IsFinding entry.now.problem.diagram entry.now.problem.length
-        j.ruling.finding) }
+    ensures ok { IfOk result (λ j. IsFindingOf entry.now j.ruling.finding) }
+    ensures err { IfErr result (IsSpoiled false) }
 {
-    let old = match recheck_at(rt, &entry.problem, bounds, path, asked, watch.terminal) {
+    let old = match recheck_at(rt, entry, bounds, path, asked, watch.terminal) {
         Ok(Standing::Shows(ruling)) => {
             return Ok(Judged {
                 ruling,
@@ -301,8 +323,8 @@ fn judge_by<R: Runtime + AllocGlobal>(
     asked: &Asked<'_>,
     watch: &mut Watch<'_, R>,
 ) -> Result<Judged, Spoiled>
-    ensures { IfOk result (λ j. IsFinding entry.now.problem.diagram entry.now.problem.length
-        j.ruling.finding) }
+    ensures ok { IfOk result (λ j. IsFindingOf entry.now j.ruling.finding) }
+    ensures err { IfErr result (IsSpoiled false) }
 {
     let Some(folder) = asked.folder else {
         let ruling = judge_loosely(rt, entry, bounds, asked, watch);
@@ -324,8 +346,8 @@ fn judge_entry<R: Runtime + AllocGlobal>(
     asked: &Asked<'_>,
     watch: &mut Watch<'_, R>,
 ) -> Result<Judged, Spoiled>
-    ensures { IfOk result (λ j. IsFinding entry.now.problem.diagram entry.now.problem.length
-        j.ruling.finding) }
+    ensures ok { IfOk result (λ j. IsFindingOf entry.now j.ruling.finding) }
+    ensures err { IfErr result (IsSpoiled false) }
 {
     let captures = Box::new(rt.alloc(), Captures)?;
     let promotions = Box::new(rt.alloc(), Promotions)?;
@@ -336,10 +358,9 @@ fn judge_entry<R: Runtime + AllocGlobal>(
     judge_by(rt, entry, &bounds, asked, watch)
 }
 
-// The status of a ruling: 0 only where the problem is sound.
+// The status of a ruling: 0 where it is said that the problem is sound, else 1.
 fn status_of(ruling: &Ruling) -> u8
-    ensures sound { (d : Placement) (n : ℕ) → IsFinding d n ruling.now.finding → result ≡ 0 → IsSound d n }
-    ensures few { result < 3 }
+    ensures { IsFindingStatus ruling.now.finding result }
 {
     if is_sound(ruling) {
         return 0;
@@ -354,7 +375,8 @@ struct Place {
     count: usize,
 }
 
-// Judges a problem, and hands its row on; its status: 0 where it is sound, else 1.
+// Judges a problem, and writes its row and hands it on; its status: 0 where it is sound, else 1. Nothing is written
+// where it has none, but where the sink refuses it.
 #[inline(never)]
 fn judge_and_tell<R: Runtime + AllocGlobal, W: Sink>(
     rt: &R,
@@ -364,8 +386,11 @@ fn judge_and_tell<R: Runtime + AllocGlobal, W: Sink>(
     terminal: &Terminal,
     out: &mut Gathered<W>,
 ) -> Result<u8, Spoiled>
-    ensures headline { IfOk result (λ s. s ≡ 0 → IsSound entry.now.problem.diagram entry.now.problem.length) }
-    ensures few { IfOk result (λ s. s < 3) }
+    ensures row { IfOk result (λ status. AddsSome (IsRuled entry.now status)
+        (⟦<Gathered<W> as Sink>⟧.held out.old) (⟦<Gathered<W> as Sink>⟧.held out.new)) }
+    ensures handed { OnOk result (IsHandedOn out.new) }
+    ensures err { IfErr result (IsSpoiled (⟦<Gathered<W> as Sink>⟧.has_failed out.new)) }
+    ensures unwritten { IfErr result (λ spoiled. spoiled ≢ Spoiled.Run Refusal.Write → out.new ≡ out.old) }
 {
     let mut watch = Watch {
         line: JudgeLine::new(rt, terminal, place.number, place.count),
@@ -378,10 +403,14 @@ fn judge_and_tell<R: Runtime + AllocGlobal, W: Sink>(
         Ok(judged) => judged,
         Err(spoiled) => return Err(spoiled),
     };
-    if write_row(entry, &judged.ruling, judged.old, out).is_err() || out.flush().is_err() {
-        return Err(Spoiled::Run(Refusal::Write));
+    match write_row(entry, &judged.ruling, judged.old, out) {
+        Ok(()) => {}
+        Err(_) => return Err(Spoiled::Run(Refusal::Write)),
     }
-    Ok(status_of(&judged.ruling))
+    match out.flush() {
+        Ok(()) => Ok(status_of(&judged.ruling)),
+        Err(Refused) => Err(Spoiled::Run(Refusal::Write)),
+    }
 }
 
 // Says on standard error what is wrong with a line, and gives the status.
@@ -392,7 +421,7 @@ fn say_bad<R: Eprint, D: Display + Drop>(rt: &R, number: usize, what: D) -> u8
     BAD
 }
 
-// Judges the problem of a line, if it spells one; its status: 2 where it is bad.
+// Judges the problem of a line, if it spells one, and writes its row and hands it on; the status of the line.
 fn judge_line<'t, R: Runtime + AllocGlobal, W: Sink>(
     rt: &R,
     line: &'t [u8],
@@ -401,8 +430,11 @@ fn judge_line<'t, R: Runtime + AllocGlobal, W: Sink>(
     terminal: &Terminal,
     out: &mut Gathered<W>,
 ) -> Result<u8, Refusal>
-    ensures headline { IfOk result (λ s. s ≡ 0 → IsSoundLine line.now) }
-    ensures few { IfOk result (λ s. s < 3) }
+    ensures row { IfOk result (λ status. AddsSome (IsJudged line.now status)
+        (⟦<Gathered<W> as Sink>⟧.held out.old) (⟦<Gathered<W> as Sink>⟧.held out.new)) }
+    ensures handed { IsHandedOn out.old → OnOk result (IsHandedOn out.new) }
+    ensures err { IfErr result (EndsRun (⟦<Gathered<W> as Sink>⟧.has_failed out.new)) }
+    ensures unwritten { IfErr result (λ refusal. refusal ≢ Refusal.Write → out.new ≡ out.old) }
 {
     seen.lines = seen.lines.saturating_add(1);
     let entry = match read_entry(rt.alloc(), line) {
@@ -453,16 +485,11 @@ fn count_problems(text: &[u8]) -> usize {
     count
 }
 
-// The greater of two statuses.
-fn worse(one: u8, other: u8) -> u8
-    ensures none { result ≡ 0 → (one ≡ 0) × (other ≡ 0) }
-    ensures few { one < 3 → other < 3 → result < 3 }
-{
-    if other > one { other } else { one }
-}
-
-// Judges the problems of a text, line by line. The status is 2 where a line is bad, else 0 where each problem is sound,
-// else 1.
+// Judges the problems of a text, line by line, and writes and hands on their rows. The status is 2 where a line is bad,
+// else 0 where each problem is sound, else 1.
+//
+// # Errors
+// `Memory`, with the rows of the first lines written, and `Write` where the sink has failed.
 fn judge_all<R: Runtime + AllocGlobal, W: Sink>(
     rt: &R,
     text: &[u8],
@@ -470,8 +497,13 @@ fn judge_all<R: Runtime + AllocGlobal, W: Sink>(
     terminal: &Terminal,
     out: &mut Gathered<W>,
 ) -> Result<u8, Refusal>
-    ensures headline { IfOk result (λ s. s ≡ 0 → All IsSoundLine (lines text.now)) }
-    ensures few { IfOk result (λ s. s < 3) }
+    ensures rows { IfOk result (λ status. AddsSome (AreJudged (lines text.now) status)
+        (⟦<Gathered<W> as Sink>⟧.held out.old) (⟦<Gathered<W> as Sink>⟧.held out.new)) }
+    ensures headline { IfOk result (λ status. status ≡ 0 → All IsSoundLine (lines text.now)) }
+    ensures handed { IsHandedOn out.old → OnOk result (IsHandedOn out.new) }
+    ensures err { IfErr result (IsCutOff text.now
+        (⟦<Gathered<W> as Sink>⟧.held out.old) (⟦<Gathered<W> as Sink>⟧.held out.new)
+        (⟦<Gathered<W> as Sink>⟧.has_failed out.new)) }
 {
     let mut seen = Seen {
         lines: 0,
@@ -481,22 +513,26 @@ fn judge_all<R: Runtime + AllocGlobal, W: Sink>(
             count: count_problems(text),
         },
     };
-    let mut worst = 0;
+    let mut worst = 0u8;
     let mut rest = Some(text);
     while let Some(left) = rest {
         let (line, after) = next_line(left);
         rest = after;
-        let status = judge_line(rt, line, asked, &mut seen, terminal, out)?;
-        worst = worse(worst, status);
+        let status = match judge_line(rt, line, asked, &mut seen, terminal, out) {
+            Ok(status) => status,
+            Err(refusal) => return Err(refusal),
+        };
+        worst = worst.max(status);
     }
     Ok(worst)
 }
 
 // The bytes of the list of problems: of a file, or of standard input where its name is a hyphen.
-fn problems_of<R: Runtime + AllocGlobal>(
-    rt: &R,
-    words: &ArgMatches<'_>,
-) -> Result<Vec<u8>, Refusal> {
+fn problems_of<R: Runtime + AllocGlobal>(rt: &R, words: &ArgMatches<'_>) -> Result<Vec<u8>, Refusal>
+    ensures ok { IfOk result (λ text. IsGivenBy R.File.remaining R.Reader.remaining
+        (spelled (codes "PROBLEMS") (rows_of (found_of words.now))) text.items) }
+    ensures err { IfErr result IsOfFile }
+{
     match list(rt, text_of(words, "PROBLEMS")) {
         Ok(text) => Ok(text),
         Err(fault) => Err(Refusal::of_file(fault, Named::Problems)),
@@ -504,7 +540,9 @@ fn problems_of<R: Runtime + AllocGlobal>(
 }
 
 // Makes the folder of the certificates, if they are kept and it is not there.
-fn make_place<R: Runtime + AllocGlobal>(rt: &R, folder: Option<&str>) -> Result<(), Refusal> {
+fn make_place<R: Runtime + AllocGlobal>(rt: &R, folder: Option<&str>) -> Result<(), Refusal>
+    ensures { IfErr result IsOfFile }
+{
     let Some(folder) = folder else {
         return Ok(());
     };
@@ -514,19 +552,27 @@ fn make_place<R: Runtime + AllocGlobal>(rt: &R, folder: Option<&str>) -> Result<
     }
 }
 
-// `pg judge`: a row for each problem stands on standard output. The list is that of the file PROBLEMS or of standard
-// input, of which no contract can say what it gives.
+// `pg judge`: a row for each problem stands on standard output. A status is that of the lines of a text that PROBLEMS
+// gives, a file or standard input; of a real one no contract can say which text that is.
 #[inline(never)]
 pub(crate) fn judge<R: Runtime + AllocGlobal>(
     rt: &R,
     words: &ArgMatches<'_>,
     screen: Screen,
 ) -> Result<u8, Refusal>
-    ensures { IfOk result (λ status. status < 3) }
+    ensures ok { IfOk result (λ status. IsListJudged (IsGivenBy R.File.remaining R.Reader.remaining)
+        (spelled (codes "PROBLEMS") (rows_of (found_of words.now))) status) }
+    ensures err { IfErr result IsOfFile }
 {
-    let text = problems_of(rt, words)?;
+    let text = match problems_of(rt, words) {
+        Ok(text) => text,
+        Err(refusal) => return Err(refusal),
+    };
     let folder = words.get_str("certificates");
-    make_place(rt, folder)?;
+    match make_place(rt, folder) {
+        Ok(()) => {}
+        Err(refusal) => return Err(refusal),
+    }
     let asked = Asked {
         reach: reach_of(words, NODES),
         by_journeys: say_journeys(words),

@@ -6,9 +6,10 @@
 //! behind `check`, `answer`, `search`, `judge`, `why` and `page`, `--minutes M` behind `cooks`, `search` and `judge`.
 #![tactic(auto)]
 
-ghost use Rattle.std.specs.Prelude.{◌≡◌, ◌↔◌, List, IsTrue, IfOk};
+ghost use Rattle.std.specs.Prelude.{◌≡◌, ◌↔◌, List, IsTrue, IfOk, IfErr};
 ghost use Rattle.clap.specs.Words.{Row, Text, found_of, rows_of};
-ghost use Rattle.pg_cli.specs.Answers.{IsNamedIn};
+ghost use Rattle.pg_cli.specs.Answers.{IsGivenBy, IsNamedIn};
+ghost use Rattle.pg_cli.specs.Ending.{IsEnd, IsRefusal, refuses};
 ghost use Rattle.pg_cli.specs.Words.{GoesByJourneys, IsStatus, IsSubcommand, says};
 
 mod answering;
@@ -53,8 +54,8 @@ use std::{env, io};
 
 // Does a command with its words and these bounds. A status of `check` or `search` means that a list is the exact answer
 // to the diagram and the length which the words spell, one of `answer`, `why` or `page` that it is to those of a
-// header, and 1 of `games` or `cooks` that no list of one game is. No command is inlined here: the frame of this call
-// would hold what each of them needs, and lie below them all.
+// header, 1 of `games` or `cooks` that no list of one game is, and one of `judge` what its rows say. No command is
+// inlined here: the frame of this call would hold what each of them needs, and lie below them all.
 fn perform<R: Runtime + AllocGlobal>(
     rt: &R,
     command: Command,
@@ -62,8 +63,9 @@ fn perform<R: Runtime + AllocGlobal>(
     bounds: &[Box<dyn Bound>],
     screen: Screen,
 ) -> Result<u8, Refusal>
-    ensures { IfOk result (λ status.
-        says (IsNamedIn R.File.remaining) command (rows_of (found_of words.now)) status) }
+    ensures ok { IfOk result (λ status. says (IsNamedIn R.File.remaining)
+        (IsGivenBy R.File.remaining R.Reader.remaining) command (rows_of (found_of words.now)) status) }
+    ensures err { IfErr result (λ refusal. refuses command (rows_of (found_of words.now)) refusal) }
 {
     match command {
         Command::Show => positions::show(rt, words, bounds),
@@ -81,14 +83,17 @@ fn perform<R: Runtime + AllocGlobal>(
     }
 }
 
-// Does the command that the words name, with these bounds. A status says of it what `says` has.
+// Does the command that the words name, with these bounds. A status says of it what `says` has, a refusal what `refuses`
+// has.
 fn carry_out<R: Runtime + AllocGlobal>(
     rt: &R,
     words: &ArgMatches<'_>,
     bounds: &[Box<dyn Bound>],
     screen: Screen,
 ) -> Result<u8, Refusal>
-    ensures { IfOk result (λ status. IsStatus (IsNamedIn R.File.remaining) words.now status) }
+    ensures ok { IfOk result (λ status. IsStatus (IsNamedIn R.File.remaining)
+        (IsGivenBy R.File.remaining R.Reader.remaining) words.now status) }
+    ensures err { IfErr result (λ refusal. IsRefusal words.now refusal) }
 {
     let Some((name, inner)) = words.subcommand() else {
         return Ok(BAD_INPUT);
@@ -118,7 +123,10 @@ fn lend<R: Runtime + AllocGlobal>(
     bounds: &[Box<dyn Bound>],
     screen: Screen,
 ) -> u8
-    ensures { result ≡ 0 → IsStatus (IsNamedIn R.File.remaining) words.now 0 }
+    ensures end { IsEnd (IsNamedIn R.File.remaining)
+        (IsGivenBy R.File.remaining R.Reader.remaining) words.now result }
+    ensures zero { result ≡ 0 → IsStatus (IsNamedIn R.File.remaining)
+        (IsGivenBy R.File.remaining R.Reader.remaining) words.now 0 }
 {
     match carry_out(rt, words, bounds, screen) {
         Ok(status) => status,
@@ -168,7 +176,10 @@ fn run<R: Runtime + AllocGlobal>(
     words: &ArgMatches<'_>,
     screen: Screen,
 ) -> Result<u8, Refusal>
-    ensures { IfOk result (λ status. status ≡ 0 → IsStatus (IsNamedIn R.File.remaining) words.now 0) }
+    ensures end { IfOk result (λ status. IsEnd (IsNamedIn R.File.remaining)
+        (IsGivenBy R.File.remaining R.Reader.remaining) words.now status) }
+    ensures zero { IfOk result (λ status. status ≡ 0 → IsStatus (IsNamedIn R.File.remaining)
+        (IsGivenBy R.File.remaining R.Reader.remaining) words.now 0) }
 {
     if !are_minutes(words) {
         return Err(Refusal::Minutes);

@@ -1,10 +1,10 @@
 //! `pg page`: a certificate is shown as a page.
-ghost use Rattle.std.specs.Prelude.{◌≡◌, IfOk, IfErr, OnOk};
+ghost use Rattle.std.specs.Prelude.{◌≡◌, ◌⊎◌, IfOk, IfErr, OnOk};
 ghost use Rattle.pg_checker.specs.Cuts.{any_rules_by, rules_by};
 ghost use Rattle.pg_checker.specs.Terms.{terms};
 ghost use Rattle.clap.specs.Words.{found_of, rows_of};
-ghost use Rattle.pg_page.specs.Page.{failures};
-ghost use Rattle.pg_streams.specs.Buffer.{IsHandedOn};
+ghost use Rattle.pg_page.specs.Page.{IsShown, failures, has_journeys};
+ghost use Rattle.pg_streams.specs.Buffer.{sink_of};
 ghost use Rattle.pg_cli.specs.Answers.{HasList, IsNamedIn};
 ghost use Rattle.pg_cli.specs.Runs.{IsPageRefusal, page_refusal};
 ghost use Rattle.pg_cli.specs.Words.{ByRecords, IsExplained};
@@ -38,7 +38,8 @@ fn refusal_of(fault: PageFault) -> Refusal
 }
 
 // Checks the certificate that a source gives, and writes the page that shows it; nothing before the check has said yes.
-// A status means that a list of games is the exact answer to the problem, and that all of the page is handed on.
+// A status means that the games which the certificate proves are the exact answer to the problem, and that the page is
+// handed on, whose head is that of just these.
 //
 // # Errors
 // `Answer` where the certificate does not give its games; `Memory`; and `Check` with `Write` where writing is refused.
@@ -50,9 +51,13 @@ pub(crate) fn page_on<S: Source, W: Sink>(
     source: &mut S,
     out: &mut Gathered<W>,
 ) -> Result<u8, Refusal>
-    ensures right { OnOk result (HasList problem.now.diagram problem.now.length) }
+    ensures head { OnOk result (ByRecords (rows_of (found_of words.now)) (λ records. IsShown
+        (terms (rules_by code_of excluded bounds.now) records MOST_NAMED (S.left source.old))
+        problem.now.diagram problem.now.length (has_journeys code_of bounds.now)
+        (⟦<Gathered<W> as Sink>⟧.held out.old) (W.held (sink_of out.new)))) }
     ensures zero { IfOk result (λ status. status ≡ 0) }
-    ensures handed { OnOk result (IsHandedOn out.new) }
+    ensures silent { (⟦<Gathered<W> as Sink>⟧.held out.new ≡ ⟦<Gathered<W> as Sink>⟧.held out.old)
+        ⊎ HasList problem.now.diagram problem.now.length }
     ensures err { IfErr result (λ refusal. ByRecords (rows_of (found_of words.now)) (λ records. IsPageRefusal
         (terms (rules_by code_of excluded bounds.now) records MOST_NAMED (S.left source.old))
         (terms (any_rules_by code_of excluded bounds.now) records MOST_NAMED (S.left source.old))

@@ -5,10 +5,12 @@ ghost use Rattle.clap.specs.Words.{found_of, rows_of};
 ghost use Rattle.pg_position.specs.Array.{array_state};
 ghost use Rattle.pg_streams.specs.Buffer.{sink_of};
 ghost use Rattle.pg_texts.specs.CountText.{IsCounted};
+ghost use Rattle.pg_cli.specs.Ending.{refuses};
 ghost use Rattle.pg_cli.specs.Runs.{AddsMoves, AddsShown, IsCountRefusal, IsMovesRefusal, IsOfBoard, IsShowRefusal};
 ghost use Rattle.pg_cli.specs.Words.{HasDiagram, HasFewPlies, HasPosition, OfPlies, SpellsBoard, spelled};
 
 use crate::checking::finished;
+use crate::commands::Command;
 use crate::refusals::{DONE, Refusal};
 use crate::spelling::{plies_of, text_of};
 use clap::ArgMatches;
@@ -45,7 +47,8 @@ pub(crate) fn moves_on<W: Sink>(
 // `pg moves FEN`: the legal moves, on standard output. A status means that FEN spells a position.
 #[inline(never)]
 pub(crate) fn moves<R: Runtime + AllocGlobal>(rt: &R, words: &ArgMatches<'_>) -> Result<u8, Refusal>
-    ensures { IfOk result (λ status. HasPosition (rows_of (found_of words.now)) status) }
+    ensures ok { IfOk result (λ status. HasPosition (rows_of (found_of words.now)) status) }
+    ensures err { IfErr result (λ refusal. refuses Command.Moves (rows_of (found_of words.now)) refusal) }
 {
     let mut out = Gathered::new(ToWrite::new(io::writer(rt)));
     moves_on(rt.alloc(), words, &mut out)
@@ -83,7 +86,8 @@ pub(crate) fn count<R: Runtime + AllocGlobal>(
     words: &ArgMatches<'_>,
     screen: bool,
 ) -> Result<u8, Refusal>
-    ensures { IfOk result (λ status. HasFewPlies (rows_of (found_of words.now)) status) }
+    ensures ok { IfOk result (λ status. HasFewPlies (rows_of (found_of words.now)) status) }
+    ensures err { IfErr result (λ refusal. refuses Command.Count (rows_of (found_of words.now)) refusal) }
 {
     let terminal = Terminal::new(screen);
     let mut line = CountLine::new(rt, &terminal);
@@ -166,7 +170,8 @@ pub(crate) fn show<R: Runtime + AllocGlobal>(
     words: &ArgMatches<'_>,
     bounds: &[Box<dyn Bound>],
 ) -> Result<u8, Refusal>
-    ensures { IfOk result (λ status. HasDiagram (rows_of (found_of words.now)) status) }
+    ensures ok { IfOk result (λ status. HasDiagram (rows_of (found_of words.now)) status) }
+    ensures err { IfErr result (λ refusal. refuses Command.Show (rows_of (found_of words.now)) refusal) }
 {
     let mut out = Gathered::new(ToWrite::new(io::writer(rt)));
     show_on(rt.alloc(), words, bounds, &mut out)

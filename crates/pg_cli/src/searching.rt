@@ -1,6 +1,6 @@
 //! `pg search`: a certificate is searched for and written, and then checked.
 
-ghost use Rattle.std.specs.Prelude.{◌≡◌, ◌≤◌, List, None, codes, IfNone, IfOk, IfErr, OnOk};
+ghost use Rattle.std.specs.Prelude.{◌≡◌, ◌⊎◌, ◌≤◌, List, None, codes, IfNone, IfOk, IfErr, OnOk};
 ghost use Rattle.pg_checker.specs.Cuts.{rules_by};
 ghost use Rattle.pg_checker.specs.Terms.{terms};
 ghost use Rattle.pg_position.specs.declared.moves.Move.{Move};
@@ -10,7 +10,9 @@ ghost use Rattle.pg_texts.specs.Report.{IsReport};
 ghost use Rattle.clap.specs.Words.{first_of, found_of, rows_of};
 ghost use Rattle.pg_report.specs.Run.{failures};
 ghost use Rattle.pg_cli.specs.Answers.{IsAnswered};
-ghost use Rattle.pg_cli.specs.Runs.{AreMet, IsFoundRefusal, IsGivenUp, IsSearchRefusal, search_refusal};
+ghost use Rattle.pg_cli.specs.Ending.{IsUnsearched};
+ghost use Rattle.pg_cli.specs.Runs.{AreMet, IsFoundRefusal, IsGivenUp, IsOfFile, IsOfSink, IsSearchRefusal};
+ghost use Rattle.pg_cli.specs.Runs.{search_refusal};
 ghost use Rattle.pg_cli.specs.Words.{IsSearched};
 
 use crate::checking::finished;
@@ -174,7 +176,7 @@ fn records_for(nodes: u64) -> u64
 // verdict. A status means that these games are the exact answer, and 0 that it is one; the report is handed on then.
 //
 // # Errors
-// `Check` with the fault of the check.
+// `Check` with the fault of the check. Nothing is written then, but where the sink refuses it.
 pub(crate) fn check_found<S: Source, W: Sink>(
     alloc: Global,
     problem: &Problem,
@@ -190,6 +192,7 @@ pub(crate) fn check_found<S: Source, W: Sink>(
     ensures err { IfErr result (λ refusal. IsFoundRefusal problem.now.diagram problem.now.length games.now
         (terms (rules_by code_of excluded bounds.now) records MOST_NAMED (S.left source.old))
         (failures (S.has_failed source.new) (⟦<Gathered<W> as Sink>⟧.has_failed out.new)) refusal) }
+    ensures unwritten { IfErr result (λ refusal. ¬ IsOfSink refusal → out.new ≡ out.old) }
 {
     match run_listed(
         alloc,
@@ -215,7 +218,8 @@ pub(crate) struct Drafts<F> {
 }
 
 // Searches, writes the certificate to its new file and the games that were met to the list's, if one is wanted; reads
-// the certificate again from there and checks it, and writes the report; the status of its verdict.
+// the certificate again from there and checks it, and writes the report; the status of its verdict. With a refusal
+// nothing is written, but where the sink refuses it.
 pub(crate) fn search_in<R, F, W>(
     rt: &R,
     problem: &Problem,
@@ -234,6 +238,7 @@ where
         × AddsSome (IsReport problem.now.diagram problem.now.length games)
         (⟦<Gathered<W> as Sink>⟧.held out.old) (W.held (sink_of out.new))) }
     ensures err { IfErr result (λ refusal. IsSearchRefusal problem.now.diagram problem.now.length refusal) }
+    ensures unwritten { IfErr result (λ refusal. ¬ IsOfSink refusal → out.new ≡ out.old) }
 {
     let certificate = &mut drafts.certificate.file;
     let searched = match search_to(rt, problem, bounds, certificate, reach, terminal) {
@@ -278,7 +283,9 @@ where
 fn begin_certificate<R: Runtime + AllocGlobal>(
     rt: &R,
     words: &ArgMatches<'_>,
-) -> Result<Draft<R::File>, Refusal> {
+) -> Result<Draft<R::File>, Refusal>
+    ensures { IfErr result IsOfFile }
+{
     let name = text_of(words, "CERT");
     let begun = match words.get_str("games") {
         Some(list) => begin_apart(rt, name, list),
@@ -295,8 +302,9 @@ fn begin_list<R: Runtime + AllocGlobal>(
     rt: &R,
     words: &ArgMatches<'_>,
 ) -> Result<Option<Draft<R::File>>, Refusal>
-    ensures { IfOk result (λ list. IfNone list
+    ensures ok { IfOk result (λ list. IfNone list
         (first_of (codes "games") (rows_of (found_of words.now)) ≡ None)) }
+    ensures err { IfErr result IsOfFile }
 {
     let path = match words.get_str("games") {
         Some(path) => path,
@@ -316,8 +324,13 @@ fn begin_list<R: Runtime + AllocGlobal>(
 fn begin_both<R: Runtime + AllocGlobal>(
     rt: &R,
     words: &ArgMatches<'_>,
-) -> Result<Drafts<R::File>, Refusal> {
-    let certificate = begin_certificate(rt, words)?;
+) -> Result<Drafts<R::File>, Refusal>
+    ensures { IfErr result IsOfFile }
+{
+    let certificate = match begin_certificate(rt, words) {
+        Ok(certificate) => certificate,
+        Err(refusal) => return Err(refusal),
+    };
     match begin_list(rt, words) {
         Ok(list) => Ok(Drafts { certificate, list }),
         Err(refusal) => {
@@ -328,7 +341,9 @@ fn begin_both<R: Runtime + AllocGlobal>(
 }
 
 // Puts the list in its place, where one is wanted.
-fn put_list<R: Runtime + AllocGlobal>(rt: &R, list: Option<Draft<R::File>>) -> Result<(), Refusal> {
+fn put_list<R: Runtime + AllocGlobal>(rt: &R, list: Option<Draft<R::File>>) -> Result<(), Refusal>
+    ensures { IfErr result IsOfFile }
+{
     let Some(list) = list else {
         return Ok(());
     };
@@ -339,7 +354,9 @@ fn put_list<R: Runtime + AllocGlobal>(rt: &R, list: Option<Draft<R::File>>) -> R
 }
 
 // Puts both files in their places, after a report.
-fn put_both<R: Runtime + AllocGlobal>(rt: &R, drafts: Drafts<R::File>) -> Result<(), Refusal> {
+fn put_both<R: Runtime + AllocGlobal>(rt: &R, drafts: Drafts<R::File>) -> Result<(), Refusal>
+    ensures { IfErr result IsOfFile }
+{
     let Drafts { certificate, list } = drafts;
     match certificate.put(rt) {
         Ok(()) => put_list(rt, list),
@@ -362,11 +379,9 @@ fn has_games(refusal: &Refusal) -> bool {
 
 // Ends a search that has no report: the certificate is taken away, and the list put in its place where the search gave
 // up and has games for it.
-fn end_both<R: Runtime + AllocGlobal>(
-    rt: &R,
-    drafts: Drafts<R::File>,
-    refusal: Refusal,
-) -> Refusal {
+fn end_both<R: Runtime + AllocGlobal>(rt: &R, drafts: Drafts<R::File>, refusal: Refusal) -> Refusal
+    ensures { (result ≡ refusal) ⊎ IsOfFile result }
+{
     let Drafts { certificate, list } = drafts;
     certificate.discard(rt);
     if has_games(&refusal) {
@@ -391,24 +406,30 @@ fn search_for<R: Runtime + AllocGlobal>(
     bounds: &[Box<dyn Bound>],
     screen: bool,
 ) -> Result<u8, Refusal>
-    ensures { IfOk result (λ status. (games : List (List Move))
+    ensures ok { IfOk result (λ status. (games : List (List Move))
         × IsAnswered problem.now.diagram problem.now.length games status) }
+    ensures err { IfErr result (λ refusal. IsOfFile refusal
+        ⊎ IsSearchRefusal problem.now.diagram problem.now.length refusal) }
 {
     let reach = reach_of(words, NODES);
-    let mut drafts = begin_both(rt, words)?;
+    let mut drafts = match begin_both(rt, words) {
+        Ok(drafts) => drafts,
+        Err(refusal) => return Err(refusal),
+    };
     let terminal = Terminal::new(screen);
     let mut out = Gathered::new(Cleared::new(ToWrite::new(io::writer(rt)), rt, &terminal));
     match search_in(rt, problem, bounds, &mut drafts, &terminal, &mut out, reach) {
-        Ok(status) => {
-            put_both(rt, drafts)?;
-            Ok(status)
-        }
+        Ok(status) => match put_both(rt, drafts) {
+            Ok(()) => Ok(status),
+            Err(refusal) => Err(refusal),
+        },
         Err(refusal) => Err(end_both(rt, drafts, refusal)),
     }
 }
 
 // `pg search`: games are searched for, and a certificate is written and checked. A status means that a list is the
-// exact answer to the diagram and the length which the words spell, and 0 that it has one game.
+// exact answer to the diagram and the length which the words spell, and 0 that it has one game. So many games as a
+// search that gave up says to have met solve the problem.
 #[inline(never)]
 pub(crate) fn search<R: Runtime + AllocGlobal>(
     rt: &R,
@@ -416,8 +437,12 @@ pub(crate) fn search<R: Runtime + AllocGlobal>(
     bounds: &[Box<dyn Bound>],
     screen: bool,
 ) -> Result<u8, Refusal>
-    ensures { IfOk result (λ status. IsSearched (rows_of (found_of words.now)) status) }
+    ensures ok { IfOk result (λ status. IsSearched (rows_of (found_of words.now)) status) }
+    ensures err { IfErr result (λ refusal. IsUnsearched (rows_of (found_of words.now)) refusal) }
 {
-    let problem = problem_in(words)?;
+    let problem = match problem_in(words) {
+        Ok(problem) => problem,
+        Err(refusal) => return Err(refusal),
+    };
     search_for(rt, words, &problem, bounds, screen)
 }

@@ -48,11 +48,11 @@ one_game d n (g ∷ []) one e = (g, e)
 one_game d n (a ∷ b ∷ rest) one e = absurd (omega (arith, one))
 
 -- what is said to be sound is
-pub sound_means : (d : Placement) (n : ℕ) (f : Finding) → IsFinding d n f → IsSaidSound f → IsSound d n
-sound_means d n (Settled verdict games) h same =
+pub sound_means : (d : Placement) (n : ℕ) (author : List (List Move)) (f : Finding) → IsFinding d n author f → IsSaidSound f → IsSound d n
+sound_means d n author (Settled verdict games) h same =
     one_game d n games (let v : IsVerdict games Sound = subst (λ (x : Verdict). IsVerdict games x) same h.1 in v) h.0
-sound_means d n (NotSound e) h said = absurd said
-sound_means d n (NotSettled known) h said = absurd said
+sound_means d n author (NotSound e) h said = absurd said
+sound_means d n author (NotSettled known) h said = absurd said
 
 -- ---- the author's games
 pub some_games : (games : List (List Move)) (n : ℕ) → n ≡ length games → n ≢ 0 → games ≢ []

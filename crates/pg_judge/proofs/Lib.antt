@@ -1,3 +1,3 @@
-mod GameLemmas
+pub mod GameLemmas
 mod RowLemmas
 mod EntryLemmas

@@ -84,16 +84,16 @@ from_array : (d : Placement) (n : ℕ) (g : List Move) → IsSolution d n g → 
 unfolding IsFromArray
 from_array d n g (long, (r, is, same)) = (r, is)
 
-evidence_written : (d : Placement) (n : ℕ) (e : Evidence) → IsFinding d n (NotSound e) → IsWritable e
-evidence_written d n (Several games) h = tt
-evidence_written d n (Another game) h = from_array d n game.items h.1
-evidence_written d n (Shorter game) h = from_array d (length game.items) game.items h.1.1
+evidence_written : (d : Placement) (n : ℕ) (author : List (List Move)) (e : Evidence) → IsFinding d n author (NotSound e) → IsWritable e
+evidence_written d n author (Several games) h = tt
+evidence_written d n author (Another game) h = from_array d n game.items h.1.0
+evidence_written d n author (Shorter game) h = from_array d (length game.items) game.items h.1.1
 
 -- what is found is of games from the array
-pub written : (d : Placement) (n : ℕ) (f : Finding) → IsFinding d n f → IsWritten f
-written d n (Settled verdict games) h = tt
-written d n (NotSound e) h = evidence_written d n e h
-written d n (NotSettled known) h = tt
+pub written : (d : Placement) (n : ℕ) (author : List (List Move)) (f : Finding) → IsFinding d n author f → IsWritten f
+written d n author (Settled verdict games) h = tt
+written d n author (NotSound e) h = evidence_written d n author e h
+written d n author (NotSettled known) h = tt
 
 -- ---- a row
 pub row : (entry : Entry) (ruling : Ruling) (old : Old) (given : Given) (a b c e : Option (List ℕ))

@@ -1,5 +1,6 @@
 -- What a ruling on a problem says of it, and what its games are.
 use Rattle.std.specs.Prelude.{◌≡◌, ◌≢◌, ◌⊎◌, ℕ, ◌<◌, ◌≤◌, None, List, [], ◌∷◌, length}
+use Rattle.std.specs.List.{Contains}
 use Rattle.pg_board.specs.Placement.{Placement}
 use Rattle.pg_position.specs.declared.moves.Move.{Move}
 use Rattle.pg_texts.specs.Report.{IsVerdict}
@@ -20,18 +21,23 @@ use Rattle.pg_judge.specs.declared.ruling.Means.TheVariants.{Unread}
 use Rattle.pg_judge.specs.declared.ruling.Reason.TheVariants.{Nodes}
 use Rattle.pg_judge.specs.declared.ruling.Ruling.{Ruling}
 
--- what shows that a problem is not sound: two solutions or more, or one beside the author's, or a shorter game
-abbrev pub IsEvidence : Placement → ℕ → Evidence → Type 0
-IsEvidence d n (Several games) = AreSolutions d n games × (2 ≤ length games)
-IsEvidence d n (Another game) = IsSolution d n game.items
-IsEvidence d n (Shorter game) = (length game.items < n) × IsSolution d (length game.items) game.items
+-- what shows that a problem is not sound: two solutions or more, or one that is none of the author's, or a shorter game
+abbrev pub IsEvidence : Placement → ℕ → List (List Move) → Evidence → Type 0
+IsEvidence d n author (Several games) = AreSolutions d n games × (2 ≤ length games)
+IsEvidence d n author (Another game) = IsSolution d n game.items × ¬ Contains author game.items
+IsEvidence d n author (Shorter game) = (length game.items < n) × IsSolution d (length game.items) game.items
 
--- What is found of the diagram d and n plies. `sound`, `cooked` and `no game`: the games are the exact answer, one, two
--- or more, or none. `not sound`: no list of one game is the exact answer, and that is shown. `not settled` claims nothing.
-abbrev pub IsFinding : Placement → ℕ → Finding → Type 0
-IsFinding d n (Settled verdict games) = IsExactAnswer d n games × IsVerdict games verdict
-IsFinding d n (NotSound evidence) = IsUnsound d n × IsEvidence d n evidence
-IsFinding d n (NotSettled known) = Unit {0}
+-- What is found of the diagram d and n plies, beside the author's games. `sound`, `cooked` and `no game`: the games are
+-- the exact answer, one, two or more, or none. `not sound`: no list of one game is the exact answer, and that is shown.
+-- `not settled` claims nothing.
+abbrev pub IsFinding : Placement → ℕ → List (List Move) → Finding → Type 0
+IsFinding d n author (Settled verdict games) = IsExactAnswer d n games × IsVerdict games verdict
+IsFinding d n author (NotSound evidence) = IsUnsound d n × IsEvidence d n author evidence
+IsFinding d n author (NotSettled known) = Unit {0}
+
+-- what is found of the problem of an entry
+abbrev pub IsFindingOf : Entry → Finding → Type 0
+IsFindingOf entry finding = IsFinding entry.problem.diagram entry.problem.length entry.games finding
 
 -- what is found where the time was over before a certificate that stands there was read to its end: nothing
 abbrev pub unread : Ruling

@@ -1,7 +1,7 @@
 //! A problem is judged.
 ghost use Rattle.std.specs.Prelude.{◌≤◌, IsTrue, IfOk, length};
 ghost use Rattle.pg_checker.specs.Answer.{AreSolutions};
-ghost use Rattle.pg_judge.specs.Ruling.{IsFinding};
+ghost use Rattle.pg_judge.specs.Ruling.{IsFindingOf};
 
 use crate::entry::Entry;
 use crate::given::{Given, given_to};
@@ -18,9 +18,9 @@ use pg_san::Games;
 use std::alloc::Global;
 
 // The author's games, where they solve the problem; those for which there is no room are left out.
-fn author_of(alloc: Global, entry: &Entry<'_>) -> Games {
+fn author_of(alloc: Global, entry: &Entry<'_>, given: Given) -> Games {
     let mut games = Games::new(alloc);
-    if given_to(entry) != Given::Solves {
+    if given != Given::Solves {
         return games;
     }
     for i in 0..entry.games.len() {
@@ -40,7 +40,7 @@ fn search_once<S: Scratch, P: JudgeProgress>(
     games: &mut Games,
     watch: &mut P,
 ) -> Result<Ruling, Stop>
-    ensures { IfOk result (λ r. IsFinding question.now.problem.now.diagram question.now.problem.now.length r.finding) }
+    ensures { IfOk result (λ r. IsFindingOf question.now.entry.now r.finding) }
 {
     let limit = limits.max_nodes;
     let first = Attempt {
@@ -83,7 +83,7 @@ fn search_on<S: Scratch, P: JudgeProgress>(
     games: &mut Games,
     watch: &mut P,
 ) -> Result<Ruling, Stop>
-    ensures { IfOk result (λ r. IsFinding question.now.problem.now.diagram question.now.problem.now.length r.finding) }
+    ensures { IfOk result (λ r. IsFindingOf question.now.entry.now r.finding) }
 {
     let mut now = Limits {
         max_nodes: FIRST.min(limits.max_nodes),
@@ -114,10 +114,10 @@ fn are_a_cook(problem: &Problem, games: &Games) -> bool
 }
 
 // What is found where no search settled a problem: that it is not sound, where two games are known.
-fn found_at_last(problem: &Problem, games: Games, known: Known) -> Finding
-    ensures { IsFinding problem.now.diagram problem.now.length result }
+fn found_at_last(entry: &Entry<'_>, games: Games, known: Known) -> Finding
+    ensures { IsFindingOf entry.now result }
 {
-    if are_a_cook(problem, &games) {
+    if are_a_cook(&entry.problem, &games) {
         Finding::NotSound(Evidence::Several(games))
     } else {
         Finding::NotSettled(known)
@@ -125,8 +125,8 @@ fn found_at_last(problem: &Problem, games: Games, known: Known) -> Finding
 }
 
 // The same, with how far the search for cooks came, and the search that came last.
-fn ended(problem: &Problem, games: Games, stop: Stop, foreign: Option<u8>) -> Ruling
-    ensures { IsFinding problem.now.diagram problem.now.length result.finding }
+fn ended(entry: &Entry<'_>, games: Games, stop: Stop, foreign: Option<u8>) -> Ruling
+    ensures { IsFindingOf entry.now result.finding }
 {
     let Stop { known, means } = stop;
     let Known {
@@ -142,21 +142,21 @@ fn ended(problem: &Problem, games: Games, stop: Stop, foreign: Option<u8>) -> Ru
         reason,
     };
     Ruling {
-        finding: found_at_last(problem, games, known),
+        finding: found_at_last(entry, games, known),
         means,
     }
 }
 
 /// Judges a problem. First, where the author's game solves it, a search led by it looks for another game or a shorter
-/// one, over at most a million nodes; where it finds one the problem is `NotSound`. Else searches of all games follow,
-/// of a million nodes, of ten times as many, and so on up to `limits`, each where the one before gave up, and each
-/// followed by one with cuts by journeys where `limits` say so and it gave up; what one has written to `scratch` is
-/// checked by these bounds, with the games that it found. With `Settled` those games are all that solve the problem,
-/// and no game of fewer plies ends on its diagram; what was checked stands in `scratch` then. With `NotSound` no list
-/// of one game is the answer: the search found a shorter game, which was found again and tested, or two games at least
-/// are known and tested. No search is trusted for anything. With `NotSettled` nothing is claimed; there is no refusal,
-/// since want of memory and a scratch that refuses are among its reasons. What the searches grow by is taken from
-/// `alloc`; `watch` is told how far they are.
+/// one, over at most a million nodes; where it finds one the problem is `NotSound`. Else searches of all games follow, of
+/// a million nodes, of ten times as many, and so on up to `limits`, each where the one before gave up, and each followed
+/// by one with cuts by journeys where `limits` say so and it gave up; what one has written to `scratch` is checked by
+/// these bounds, with the games that it found. With `Settled` those games are all that solve the problem, and no game of
+/// fewer plies ends on its diagram; what was checked stands in `scratch` then. With `NotSound` no list of one game is the
+/// answer: a shorter game was found, or one that is none of the author's, and tested; or two games at least are known
+/// and tested. No search is trusted for anything. With `NotSettled` nothing is claimed; there is no refusal, since want
+/// of memory and a scratch that refuses are among its reasons. What the searches grow by is taken from `alloc`; `watch`
+/// is told how far they are.
 pub fn judge<S: Scratch, P: JudgeProgress>(
     alloc: Global,
     entry: &Entry<'_>,
@@ -165,17 +165,17 @@ pub fn judge<S: Scratch, P: JudgeProgress>(
     scratch: &mut S,
     watch: &mut P,
 ) -> Ruling
-    ensures headline { IsFinding entry.now.problem.diagram entry.now.problem.length result.finding }
+    ensures headline { IsFindingOf entry.now result.finding }
 {
-    let problem = &entry.problem;
-    let mut games = author_of(alloc, entry);
-    let foreign = match lead(alloc, problem, &games, limits.max_nodes, watch) {
+    let given = given_to(entry);
+    let mut games = author_of(alloc, entry, given);
+    let foreign = match lead(alloc, entry, given, limits.max_nodes, watch) {
         Ok(ruling) => return ruling,
         Err(foreign) => foreign,
     };
-    let question = Question { problem, bounds };
+    let question = Question { entry, bounds };
     match search_on(alloc, &question, limits, scratch, &mut games, watch) {
         Ok(ruling) => ruling,
-        Err(stop) => ended(problem, games, stop, foreign),
+        Err(stop) => ended(entry, games, stop, foreign),
     }
 }

@@ -1,30 +1,30 @@
 //! The search for a game beside the author's.
 ghost use Rattle.std.specs.Prelude.{IfOk};
-ghost use Rattle.pg_judge.specs.Ruling.{IsFinding};
+ghost use Rattle.pg_judge.specs.Ruling.{IsFindingOf};
 
+use crate::entry::Entry;
+use crate::given::Given;
 use crate::limits::LED;
 use crate::met::Reach;
 use crate::progress::{Effort, JudgeProgress};
 use crate::ruling::{Evidence, Finding, Means, Ruling};
-use pg_checker::Problem;
 use pg_cooks::{CookAnswer, LedLimits, cooks};
-use pg_san::Games;
 use std::alloc::Global;
 
-// Looks for a game beside these, led by them, over so many nodes at most.
+// Looks for a game beside the author's, led by his where they solve the problem, over so many nodes at most.
 //
 // # Errors
-// Where none is found, or none of them leads: with how many foreign moves at most all games were gone through, if so.
+// Where none is found, or none leads: with how many foreign moves at most all games were gone through, if so.
 pub(crate) fn lead<P: JudgeProgress>(
     alloc: Global,
-    problem: &Problem,
-    games: &Games,
+    entry: &Entry<'_>,
+    given: Given,
     max_nodes: u64,
     watch: &mut P,
 ) -> Result<Ruling, Option<u8>>
-    ensures { IfOk result (λ r. IsFinding problem.now.diagram problem.now.length r.finding) }
+    ensures { IfOk result (λ r. IsFindingOf entry.now r.finding) }
 {
-    if games.len() == 0 {
+    if given != Given::Solves {
         return Err(None);
     }
     let limits = LedLimits {
@@ -35,9 +35,9 @@ pub(crate) fn lead<P: JudgeProgress>(
     let mut reach = Reach::new(watch, limits.max_nodes);
     let answer = cooks(
         alloc,
-        &problem.diagram,
-        problem.length,
-        games,
+        &entry.problem.diagram,
+        entry.problem.length,
+        &entry.games,
         limits,
         &mut reach,
     );

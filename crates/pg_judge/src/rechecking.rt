@@ -1,33 +1,34 @@
 //! A certificate that stands there already.
 ghost use Rattle.std.specs.Prelude.{◌≡◌, IfOk};
-ghost use Rattle.pg_judge.specs.Ruling.{IsFinding, unread};
+ghost use Rattle.pg_judge.specs.Ruling.{IsFindingOf, unread};
 
+use crate::entry::Entry;
 use crate::ruling::{Finding, Known, Means, Reason, Ruling};
 use crate::searching::verdict_on;
 use pg_captures::Bound;
 use pg_certificate::Source;
 use pg_certificate::format::MOST_NAMED;
-use pg_checker::{Answer, AnswerFault, Problem, answer};
+use pg_checker::{Answer, AnswerFault, answer};
 use std::alloc::Global;
 
-/// What a certificate of a problem proves, by these bounds: its games are all that solve the problem, and no game of
+/// What a certificate of an entry's problem proves, by these bounds: its games are all that solve the problem, and no game of
 /// fewer plies ends on the diagram. The list and the named nodes are taken from `alloc`.
 ///
 /// # Errors
 /// As for `answer`: where the certificate is refused, or is of another problem.
 pub fn recheck<R: Source>(
     alloc: Global,
-    problem: &Problem,
+    entry: &Entry<'_>,
     bounds: &[Box<dyn Bound>],
     source: &mut R,
     max_records: u64,
 ) -> Result<Ruling, AnswerFault>
-    ensures headline { IfOk result (λ r. IsFinding problem.now.diagram problem.now.length r.finding) }
+    ensures headline { IfOk result (λ r. IsFindingOf entry.now r.finding) }
 {
     match answer(
         alloc,
-        &problem.diagram,
-        problem.length,
+        &entry.problem.diagram,
+        entry.problem.length,
         bounds,
         source,
         max_records,

@@ -5,7 +5,7 @@ ghost use Rattle.pg_san.specs.Games.{IsFromArray};
 ghost use Rattle.pg_texts.specs.Movetext.{IsMovetext};
 ghost use Rattle.pg_texts.specs.Report.{verdict_text};
 ghost use Rattle.pg_cooks.specs.Cooks.{foreign_text};
-ghost use Rattle.pg_judge.specs.Ruling.{IsFinding};
+ghost use Rattle.pg_judge.specs.Ruling.{IsFindingOf};
 ghost use Rattle.pg_judge.specs.Rows.{ArePair, AreShown, IsDetail, IsEvidenceText, IsNth, IsRowOf, IsTold, IsWritable};
 ghost use Rattle.pg_judge.specs.Rows.{IsWritten, below_text, cooks_text, effort_text, finding_text, given_text};
 ghost use Rattle.pg_judge.specs.Rows.{head_text, known_text, means_text, reason_text, old_text};
@@ -310,7 +310,7 @@ fn append_row<W: Sink>(
     old: Old,
     out: &mut W,
 ) -> Result<(), Refused>
-    requires { IsFinding entry.now.problem.diagram entry.now.problem.length ruling.now.finding }
+    requires { IsFindingOf entry.now ruling.now.finding }
     ensures { Pushes W.held W.has_failed
         (AddsSome (IsRowOf entry.now ruling.now old)) out.old out.new result }
 {
@@ -336,7 +336,7 @@ pub fn write_row<W: Sink>(
     old: Old,
     out: &mut W,
 ) -> Result<(), WriteFault>
-    requires { IsFinding entry.now.problem.diagram entry.now.problem.length ruling.now.finding }
+    requires { IsFindingOf entry.now ruling.now.finding }
     ensures row { Pushes W.held W.has_failed
         (AddsSome (IsRowOf entry.now ruling.now old)) out.old out.new result }
     ensures fault { IfErr result (λ e. e ≡ WriteFault.Write) }

@@ -1,7 +1,7 @@
 //! What is found of a problem, by what, and what shows it.
-ghost use Rattle.std.specs.Prelude.{◌↔◌, ℕ, IsTrue};
-ghost use Rattle.pg_board.specs.Placement.{Placement};
-ghost use Rattle.pg_judge.specs.Ruling.{IsFinding, IsSaidSound, IsSound};
+ghost use Rattle.std.specs.Prelude.{◌↔◌, IsTrue};
+ghost use Rattle.pg_judge.specs.Ruling.{IsFindingOf, IsSaidSound, IsSound};
+ghost use Rattle.pg_judge.specs.declared.entry.Entry.{Entry};
 
 use crate::progress::Effort;
 use pg_fen::Length;
@@ -89,7 +89,8 @@ fn is_said_sound(finding: &Finding) -> bool
 /// Whether the problem is sound: just one game is found, and no other is there, nor a shorter one.
 pub fn is_sound(ruling: &Ruling) -> bool
     ensures said { IsTrue result ↔ IsSaidSound ruling.now.finding }
-    ensures means { (d : Placement) (n : ℕ) → IsFinding d n ruling.now.finding → IsTrue result → IsSound d n }
+    ensures means { (entry : Entry) → IsFindingOf entry ruling.now.finding → IsTrue result
+        → IsSound entry.problem.diagram entry.problem.length }
 {
     is_said_sound(&ruling.finding)
 }

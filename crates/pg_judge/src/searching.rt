@@ -1,8 +1,9 @@
 //! One search for the games of a problem, and the check of what it wrote.
 ghost use Rattle.std.specs.Prelude.{◌≡◌, ℕ, ◌<◌, length, IfOk, IfSome};
 ghost use Rattle.pg_texts.specs.Report.{IsVerdict};
-ghost use Rattle.pg_judge.specs.Ruling.{IsFinding};
+ghost use Rattle.pg_judge.specs.Ruling.{IsFindingOf};
 
+use crate::entry::Entry;
 use crate::met::Met;
 use crate::progress::{Effort, JudgeProgress};
 use crate::ruling::{Finding, Known, Means, Reason, Ruling};
@@ -18,10 +19,10 @@ use pg_searcher::{SearchFault, search_by_journeys, search_watched};
 use pg_texts::Verdict;
 use std::alloc::Global;
 
-// A problem, and the bounds by which certificates of it are checked.
+// An entry, and the bounds by which certificates of its problem are checked.
 #[derive(Clone, Copy)]
 pub(crate) struct Question<'a> {
-    pub(crate) problem: &'a Problem,
+    pub(crate) entry: &'a Entry<'a>,
     pub(crate) bounds: &'a [Box<dyn Bound>],
 }
 
@@ -112,17 +113,17 @@ fn confirmed<S: Scratch>(
     games: Games,
     scratch: &mut S,
 ) -> Result<Finding, Reason>
-    ensures { IfOk result (λ f. IsFinding question.now.problem.now.diagram question.now.problem.now.length f) }
+    ensures { IfOk result (λ f. IsFindingOf question.now.entry.now f) }
 {
     if scratch.rewind().is_err() {
         return Err(Reason::Scratch);
     }
-    let Question { problem, bounds } = *question;
+    let Question { entry, bounds } = *question;
     let mut source = FromRead::new(scratch);
     match check(
         alloc,
-        &problem.diagram,
-        problem.length,
+        &entry.problem.diagram,
+        entry.problem.length,
         &games,
         bounds,
         &mut source,
@@ -172,12 +173,12 @@ fn settled<S: Scratch, P: JudgeProgress>(
     scratch: &mut S,
     watch: &mut P,
 ) -> Result<Finding, Reason>
-    ensures { IfOk result (λ f. IsFinding question.now.problem.now.diagram question.now.problem.now.length f) }
+    ensures { IfOk result (λ f. IsFindingOf question.now.entry.now f) }
 {
     match found {
         Ok(games) => confirmed(alloc, question, games, scratch),
         Err(SearchFault::Shorter(plies)) => {
-            refuted(alloc, question.problem, plies, attempt, scratch, watch)
+            refuted(alloc, question.entry, plies, attempt, scratch, watch)
         }
         Err(fault) => Err(reason_of(fault, scratch)),
     }
@@ -203,11 +204,12 @@ pub(crate) fn attempt_once<S: Scratch, P: JudgeProgress>(
     games: &mut Games,
     watch: &mut P,
 ) -> Result<Ruling, Stop>
-    ensures { IfOk result (λ r. IsFinding question.now.problem.now.diagram question.now.problem.now.length r.finding) }
+    ensures { IfOk result (λ r. IsFindingOf question.now.entry.now r.finding) }
 {
-    let searched = search_for(alloc, question.problem, attempt, scratch, games, watch);
+    let problem = &question.entry.problem;
+    let searched = search_for(alloc, problem, attempt, scratch, games, watch);
     let Searched { found, nodes, tree } = searched;
-    let found = search_anew(alloc, question.problem, attempt, found, scratch, watch);
+    let found = search_anew(alloc, problem, attempt, found, scratch, watch);
     let means = Means::Search(attempt.effort, nodes);
     match settled(alloc, question, attempt, found, scratch, watch) {
         Ok(finding) => Ok(Ruling { finding, means }),

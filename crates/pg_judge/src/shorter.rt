@@ -1,8 +1,9 @@
 //! A game that is shorter than stated, found again and tested.
 ghost use Rattle.std.specs.Prelude.{◌≡◌, ◌<◌, length as length_of, IfOk, IfSome};
 ghost use Rattle.pg_checker.specs.Answer.{IsSolution};
-ghost use Rattle.pg_judge.specs.Ruling.{IsFinding};
+ghost use Rattle.pg_judge.specs.Ruling.{IsFindingOf};
 
+use crate::entry::Entry;
 use crate::progress::JudgeProgress;
 use crate::ruling::{Evidence, Finding, Reason};
 use crate::scratch::Scratch;
@@ -60,21 +61,21 @@ fn shorter<S: Scratch, P: JudgeProgress>(
     first_of(&asked.diagram, length, &games)
 }
 
-// That a problem is not sound, by such a game.
+// That the problem of an entry is not sound, by such a game.
 //
 // # Errors
 // `Nodes` where none is found again.
 pub(crate) fn refuted<S: Scratch, P: JudgeProgress>(
     alloc: Global,
-    problem: &Problem,
+    entry: &Entry<'_>,
     plies: u8,
     attempt: Attempt,
     scratch: &mut S,
     watch: &mut P,
 ) -> Result<Finding, Reason>
-    ensures { IfOk result (λ f. IsFinding problem.now.diagram problem.now.length f) }
+    ensures { IfOk result (λ f. IsFindingOf entry.now f) }
 {
-    match shorter(alloc, problem, plies, attempt, scratch, watch) {
+    match shorter(alloc, &entry.problem, plies, attempt, scratch, watch) {
         Some(game) => Ok(Finding::NotSound(Evidence::Shorter(game))),
         None => Err(Reason::Nodes),
     }

@@ -1,5 +1,5 @@
 -- What a check of texts says: which texts spell what, and why there is no report.
-use Rattle.std.specs.Prelude.{◌≡◌, ℕ, Bool, true, List, Ok, Err}
+use Rattle.std.specs.Prelude.{◌≡◌, ℕ, true, List, Ok, Err}
 use Rattle.pg_board.specs.Placement.{Placement}
 use Rattle.pg_position.specs.declared.moves.Move.{Move}
 use Rattle.pg_fen.specs.Fields.{fields}
@@ -8,6 +8,7 @@ use Rattle.pg_fen.specs.Lengths.{length_of}
 use Rattle.pg_san.specs.Listing.{IsTextFault}
 use Rattle.pg_checker.specs.Answer.{IsExactAnswer}
 use Rattle.pg_checker.specs.Check.{Accepts, Refuses}
+use Rattle.pg_checker.specs.Telling.{Tells}
 use Rattle.pg_checker.specs.Terms.{Terms}
 use Rattle.pg_checker.specs.declared.certify.Proved.{Proved}
 use Rattle.pg_checker.specs.ProblemText.{IsProblemFault}
@@ -22,11 +23,11 @@ pub record Texts : Type 0 where
   pub length : List ℕ
   pub games : List ℕ
 
--- why a check of a list ends without its report: the check does not
--- say yes, for a cause that it has; or it did, and the sink has failed
+-- why a check of a list ends without its report: the check does not say yes, for a cause that it has, and the game
+-- that it calls unlisted, or of fewer plies, is there; or it did, and the sink has failed
 abbrev pub IsCheckFault : Placement → ℕ → List (List Move) → Terms → Failures → RunFault → Type 0
 IsCheckFault d n list t failed (Check fault) =
-    Accepts t d n list (Err fault) × Refuses t d n list failed.source (Err fault)
+    Accepts t d n list (Err fault) × Refuses t d n list failed.source (Err fault) × Tells d n list (Err fault)
 IsCheckFault d n list t failed Write =
     IsExactAnswer d n list × (failed.sink ≡ true) × ((proved : Proved) × Accepts t d n list (Ok proved))
 IsCheckFault d n list t failed fault = ⊥

@@ -24,8 +24,9 @@ use std::alloc::Global;
 /// written and nothing else; nothing is written before the check has said yes.
 ///
 /// # Errors
-/// `Check` where the check does not say yes, with its cause; `Write` where it does and the sink has
-/// failed.
+/// `Check` where the check does not say yes, with its cause: the game of `Unlisted` is a solution that the list lacks,
+/// and a game of the plies of `Shorter`, which are fewer, ends on the diagram, whatever the source is; `Write` where it
+/// does and the sink has failed.
 pub fn run_listed<R: Source, W: Sink>(
     alloc: Global,
     diagram: &Diagram,
@@ -80,8 +81,8 @@ pub fn run_listed<R: Source, W: Sink>(
 ///
 /// # Errors
 /// In this order: `Diagram`, `Length` and `Games` where that text is refused, with its refusal, before
-/// the source is asked; `Check` where the check does not say yes, with its cause; `Write` where it does
-/// and the sink has failed.
+/// the source is asked; `Check` where the check does not say yes, with its cause, as for `run_listed`; `Write` where it
+/// does and the sink has failed.
 pub fn run_check<R: Source, W: Sink>(
     alloc: Global,
     diagram: &str,

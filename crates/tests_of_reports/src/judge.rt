@@ -1,5 +1,5 @@
 //! Lines that are judged, and their rows: what the tests share.
-ghost use Rattle.pg_judge.specs.Ruling.{IsFinding};
+ghost use Rattle.pg_judge.specs.Ruling.{IsFindingOf};
 
 mod faults;
 mod growing;
@@ -23,7 +23,7 @@ fn entry_of<'a, R: Abort + AllocGlobal>(rt: &R, line: &'a str) -> Entry<'a> {
 
 // The row of a ruling, as a text in which bars stand for tabs.
 fn row_of<R: Abort + AllocGlobal>(rt: &R, entry: &Entry<'_>, ruling: &Ruling, old: Old) -> String
-    requires { IsFinding entry.now.problem.diagram entry.now.problem.length ruling.now.finding }
+    requires { IsFindingOf entry.now ruling.now.finding }
 {
     let mut out = ToWrite::new(Vec::new(rt.alloc()));
     assert!(rt; write_row(entry, ruling, old, &mut out).is_ok());

@@ -25,13 +25,7 @@ fn check_standing<R: Abort + AllocGlobal>(rt: &R, line: &str, bytes: &[u8], want
     let entry = entry_of(rt, line);
     let bounds = five_bounds(rt);
     let mut source = FromRead::new(bytes);
-    let found = match recheck(
-        rt.alloc(),
-        &entry.problem,
-        bounds.as_slice(),
-        &mut source,
-        1000,
-    ) {
+    let found = match recheck(rt.alloc(), &entry, bounds.as_slice(), &mut source, 1000) {
         Ok(ruling) => row_of(rt, &entry, &ruling, Old::Absent),
         Err(fault) => format!(in rt.alloc(); "{fault}").expect(rt, "memory"),
     };

@@ -1,5 +1,5 @@
 use Rattle.pg_texts.specs.Report.{IsReport}
-use Rattle.pg_cli.proofs.StatusLemmas.{has, has_on, unwritten}
+use Rattle.pg_cli.proofs.StatusLemmas.{answered_alone, but_for_sink, has, has_on, unwritten}
 use Rattle.pg_cli.proofs.WrittenLemmas.{handed}
 use Rattle.pg_cli.proofs.answering.answer_on.Goals as goal
 
@@ -13,7 +13,11 @@ returns-in-Ok g c =
       headline = has c.finished.result k _ c.finished.ensures.ok (h.0.games, (h.1.0, (v, h.2, is)));
       report = has_on c.finished.result k _ _ c.finished.ensures.ok c.finished.ensures.handed (λ kept. (c.records_of-records.result, c.records_of-records.ensures, (v, is, (h.0, h.1, h.2, handed g.W.Sink.held c.args.out.now c.run_answer.new.out c.finished.new.out (IsReport c.args.problem.now.diagram c.args.problem.now.length h.0.games) h.3 kept))));
       err = unwritten c.finished.result _ _ c.finished.ensures.err (λ failed. (c.records_of-records.result, c.records_of-records.ensures, (failed, (h.0, h.1))));
+      unwritten = but_for_sink c.finished.result _ _ c.finished.ensures.err;
     }
 
 pub returns-in-Err-clause-err : goal.returns-in-Err-clause-err
 returns-in-Err-clause-err g c = (c.records_of-records.result, c.records_of-records.ensures, c.in-Err.ensures.err)
+
+pub returns-in-Err-clause-unwritten : goal.returns-in-Err-clause-unwritten
+returns-in-Err-clause-unwritten g c = answered_alone c.in-Err.fault _ c.in-Err.ensures.unwritten

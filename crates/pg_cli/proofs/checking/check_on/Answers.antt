@@ -3,7 +3,7 @@ use Rattle.pg_checker.specs.Cuts.{rules_by}
 use Rattle.pg_checker.specs.Terms.{terms}
 use Rattle.pg_report.specs.Run.{failures}
 use Rattle.pg_texts.specs.Report.{IsReport}
-use Rattle.pg_cli.proofs.StatusLemmas.{has, on_ok, unwritten}
+use Rattle.pg_cli.proofs.StatusLemmas.{but_for_sink, checked_alone, has, on_ok, unwritten}
 use Rattle.pg_cli.proofs.WordLemmas.{are_listed, texts_refused}
 use Rattle.pg_cli.proofs.WrittenLemmas.{handed}
 use Rattle.pg_cli.proofs.checking.check_on.Goals as goal
@@ -20,6 +20,7 @@ returns-in-Ok-run_check g c =
       headline = has c.finished.result c.verdict_status.result _ c.finished.ensures.ok (h.0, h.1, h.2, listed, (h.4, (c.in-Ok-run_check.verdict, h.5, c.verdict_status.ensures)));
       report = on_ok c.finished.result _ _ c.finished.ensures.handed (λ kept. (h.0, h.1, h.2, listed, handed g.W.Sink.held c.args.out.now c.run_check.new.out c.finished.new.out (IsReport h.0 h.1 h.2) h.6 kept));
       err = unwritten c.finished.result _ _ c.finished.ensures.err (λ failed. (c.records_of-records.result, c.records_of-records.ensures, (h.0, h.1, h.2, listed, (h.4, failed, h.7))));
+      unwritten = but_for_sink c.finished.result _ _ c.finished.ensures.err;
     }
 
 pub returns-in-Err-run_check-clause-err : goal.returns-in-Err-run_check-clause-err
@@ -32,3 +33,6 @@ returns-in-Err-run_check-clause-err g c = (
       (failures (g.S.Source.has_failed c.run_check.new.source) (g.W.Sink.has_failed c.run_check.new.out.inner))
       c.in-Err-run_check.fault c.text_of-diagram.ensures c.text_of-length.ensures c.in-Ok.ensures.cases.0 c.in-Err-run_check.ensures.err,
 )
+
+pub returns-in-Err-run_check-clause-unwritten : goal.returns-in-Err-run_check-clause-unwritten
+returns-in-Err-run_check-clause-unwritten g c = checked_alone c.in-Err-run_check.fault _ c.in-Err-run_check.ensures.unwritten

@@ -1,10 +1,11 @@
-use Rattle.std.proofs.Common.{refl, subst, List, ℕ}
+use Rattle.std.proofs.Common.{inr, refl, subst, List, ℕ}
 use Rattle.pg_checker.specs.Cuts.{any_rules_by, rules_by}
 use Rattle.pg_checker.specs.Terms.{terms}
 use Rattle.pg_report.specs.Run.{failures}
 use Rattle.pg_guide.specs.Why.{IsOneLine, IsWhyFault}
 use Rattle.pg_guide.specs.declared.fault.WhyFault.TheVariants.{Write}
-use Rattle.pg_cli.proofs.StatusLemmas.{on_ok, unwritten}
+use Rattle.pg_cli.proofs.StatusLemmas.{but_for_sink, explained_alone, on_ok, unwritten}
+use Rattle.pg_cli.proofs.WrittenLemmas.{or_list, right_kept}
 use Rattle.pg_cli.proofs.guiding.why_on.Goals as goal
 
 pub returns-in-Ok : goal.returns-in-Ok
@@ -13,8 +14,10 @@ returns-in-Ok g c =
     record {
       right = on_ok c.finished.result _ _ c.finished.ensures.all (λ all. (h.0.games, h.1));
       zero = c.finished.ensures.ok;
-      handed = c.finished.ensures.all;
+      told = on_ok c.finished.result _ _ c.finished.ensures.handed (λ kept. right_kept _ _ _ c.in-Ok.ensures.told kept);
+      silent = inr (h.0.games, h.1);
       err = unwritten c.finished.result _ _ c.finished.ensures.err (λ failed. (c.records_of-records.result, c.records_of-records.ensures, (Write, refl, (subst (λ (x : List ℕ). IsOneLine x) c.text_of-moves.ensures c.in-Ok.ensures.line, h, failed))));
+      unwritten = but_for_sink c.finished.result _ _ c.finished.ensures.err;
     }
 
 pub returns-in-Err-clause-err : goal.returns-in-Err-clause-err
@@ -30,3 +33,11 @@ returns-in-Err-clause-err g c =
         subst (λ (x : List ℕ). IsWhyFault x t any c.args.problem.now.diagram c.args.problem.now.length failed c.in-Err.fault) c.text_of-moves.ensures c.in-Err.ensures.err,
       ),
     )
+
+pub returns-in-Err-clause-silent : goal.returns-in-Err-clause-silent
+returns-in-Err-clause-silent g c =
+    let t = terms (rules_by (λ b. (goal.Bound-dyn g (b.vtable, b.value)).code_of b.value) (λ b. (goal.Bound-dyn g (b.vtable, b.value)).excluded b.value) c.args.bounds.now) c.records_of-records.result 4194304 (g.S.Source.left c.args.source.now) in
+    or_list t c.args.problem.now.diagram c.args.problem.now.length c.why.ensures.silent
+
+pub returns-in-Err-clause-unwritten : goal.returns-in-Err-clause-unwritten
+returns-in-Err-clause-unwritten g c = explained_alone c.in-Err.fault c.refusal_of.result _ c.refusal_of.ensures c.in-Err.ensures.unwritten

@@ -1,15 +1,18 @@
-use Rattle.std.proofs.Common.{◌≡◌, ◌<◌}
-use Rattle.std.specs.Prelude.{All}
+use Rattle.std.proofs.Common.{◌≡◌, ◌++◌, List, ℕ}
+use Rattle.pg_certificate.specs.Pushing.{AddsSome}
 use Rattle.pg_san.specs.GameText.{lines}
 use Rattle.pg_san.specs.TextLeft.{lines_left, length_left}
-use Rattle.pg_judge.specs.Ruling.{IsSoundLine}
+use Rattle.pg_streams.specs.Buffer.{IsHandedOn}
+use Rattle.pg_cli.specs.Judging.{AreJudged}
+use Rattle.pg_cli.proofs.WrittenLemmas.{held_by}
 use Rattle.pg_cli.proofs.judging.judge_all.Given as goal
 
--- where no line so far was other than sound, all lines are where those that are left are
+-- the lines so far are judged, their rows stand there, and those that are left come behind them
 abbrev pub invariant-loop-rest : goal.invariant-loop-rest
 invariant-loop-rest g l = record {
-  sound : l.worst ≡ 0 → All IsSoundLine (lines_left l.rest) → All IsSoundLine (lines l.fn.text);
-  few : l.worst < 3;
+  far : (done : List (List ℕ)) × (lines l.fn.text ≡ done ++ lines_left l.rest)
+      × AddsSome (AreJudged done l.worst) (held_by g.W.Sink.held l.fn.out) (held_by g.W.Sink.held l.out);
+  handed : IsHandedOn l.fn.out → IsHandedOn l.out;
 }
 
 abbrev pub decreases-loop-rest : goal.decreases-loop-rest

@@ -7,7 +7,7 @@ use Rattle.pg_judge.proofs.RowLemmas.{row, written}
 use Rattle.pg_judge.proofs.rows.append_row.Goals as goal
 
 pub write_detail-requires : goal.write_detail-requires
-write_detail-requires g c = written c.args.entry.now.problem.diagram c.args.entry.now.problem.length c.args.ruling.now.finding c.requires
+write_detail-requires g c = written c.args.entry.now.problem.diagram c.args.entry.now.problem.length c.args.entry.now.games c.args.ruling.now.finding c.requires
 
 pub returns : goal.returns
 returns g c = record {
