@@ -241,7 +241,7 @@ within_100_MB() { (ulimit -v 100000; TMPDIR=$1 "$pg" judge king 2>error | cut -f
 if command -v script >/dev/null; then
   echo 'long rnbqkbnr/pppppppp/8/8/8/3P4/PPPP1PPP/RNBQKBNR 64.0' >long
   F 'echo UEdDMYAkUzZCEREQEQAQAAAAAAAAAAAAAAAAAACZmZmZrNu+yg== | base64 -d >long.pgc
-    head -c 24000000 /dev/zero | tr "\0" "\1" >>long.pgc'
+    head -c 72000000 /dev/zero | tr "\0" "\1" >>long.pgc'
   script -qec "'$pg' judge long --certificates F --nodes 0 >rows" /dev/null </dev/null | tr -d '\n' | tr '\r' '\n' >said
   grep -q 'bytes [0-9]*% of file' said || fail 'the check of a long certificate does not show how far it is' said rows
   [ "$(cut -f 3,5 rows)" = $'not settled\tsearch, 0 nodes, old certificate refused' ] || fail 'a long certificate' rows
