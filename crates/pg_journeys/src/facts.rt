@@ -40,8 +40,8 @@ pub(crate) fn rank_set(rank: u8) -> SquareSet
     SquareSet::of_bits(0xffu64 << (8 * (rank - 1)))
 }
 
-// The pawns of a placement on their home ranks, of both colours.
-pub(crate) fn walls(goal: &Board) -> SquareSet
+/// The walls of a placement: its pawns on their home ranks, of both colours.
+pub fn walls(goal: &Board) -> SquareSet
     ensures { IsSetOf result (IsWallOf goal.now) }
 {
     (goal.squares_of(Man::new(Color::White, Kind::Pawn)) & rank_set(2))

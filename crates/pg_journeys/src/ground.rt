@@ -18,13 +18,14 @@ use crate::facts::{Facts, rank_set};
 use pg_board::{Board, Color, Kind, Man, Square, SquareSet};
 use pg_position::{attacks_from, home_rank};
 
-// What the steps of a colour's men go by. The table has the steps of each kind but a pawn from each square.
+/// What the steps of a colour's men go by under facts: the squares that are not still, and for each kind but a pawn the
+/// steps from each square, at 64 times the kind's number and the square's index.
 #[derive(Drop)]
-pub(crate) struct Ground {
-    pub(crate) facts: Facts,
-    pub(crate) color: Color,
-    pub(crate) free: SquareSet,
-    pub(crate) table: [SquareSet; 384],
+pub struct Ground {
+    pub facts: Facts,
+    pub color: Color,
+    pub free: SquareSet,
+    pub table: [SquareSet; 384],
 }
 
 // A board with a man on each square of a set.
@@ -59,8 +60,8 @@ fn fill_queens(table: &mut [SquareSet; 384])
     }
 }
 
-// The steps of each kind but a pawn from each square, where these squares are still.
-pub(crate) fn steps_table(still: SquareSet) -> [SquareSet; 384]
+/// The steps of each kind but a pawn from each square, where these squares are still.
+pub fn steps_table(still: SquareSet) -> [SquareSet; 384]
     ensures { (f : KnownFacts) (c : Color) → ((s : ℕ) → s < 64 → f.still s ≡ has still s) → IsTable f c result }
 {
     let blocks = blocked(still);
@@ -74,8 +75,8 @@ pub(crate) fn steps_table(still: SquareSet) -> [SquareSet; 384]
     table
 }
 
-// The ground of a colour under facts, with the table of steps there, which is the same for both colours.
-pub(crate) fn ground_of(facts: &Facts, color: Color, table: &[SquareSet; 384]) -> Ground
+/// The ground of a colour under facts, with the table of steps there, which is the same for both colours.
+pub fn ground_of(facts: &Facts, color: Color, table: &[SquareSet; 384]) -> Ground
     requires { HasSteps facts.now.still table.now }
     ensures sound { IsGround result }
     ensures facts { result.facts ≡ facts.now }
@@ -153,8 +154,8 @@ impl Ground {
         self.facts.lands(self.color.other())
     }
 
-    // Where a man of this kind, no pawn, may step from a square.
-    pub(crate) fn steps(&self, kind: Kind, square: Square) -> SquareSet
+    /// Where a man of this kind, no pawn, may step from a square.
+    pub fn steps(&self, kind: Kind, square: Square) -> SquareSet
         requires sound { IsGround self.now }
         requires piece { kind ≢ Pawn }
         ensures { IsSetOf result (λ s. IsLeg (known self.now.facts) self.now.color (leg kind square kind s)) }
@@ -176,8 +177,8 @@ impl Ground {
         steps
     }
 
-    // Where pawns on the squares of a set may step straight ahead.
-    pub(crate) fn pushes_of(&self, set: SquareSet) -> SquareSet
+    /// Where pawns on the squares of a set may step straight ahead.
+    pub fn pushes_of(&self, set: SquareSet) -> SquareSet
         requires { IsGround self.now }
         ensures { IsSetOf result (LedTo (Pushes (known self.now.facts) self.now.color) set) }
     {
@@ -189,8 +190,8 @@ impl Ground {
         once | twice
     }
 
-    // Where pawns on the squares of a set may step by a capture.
-    pub(crate) fn captures_of(&self, set: SquareSet) -> SquareSet
+    /// Where pawns on the squares of a set may step by a capture.
+    pub fn captures_of(&self, set: SquareSet) -> SquareSet
         requires { IsGround self.now }
         ensures { IsSetOf result (LedTo (Captures (known self.now.facts) self.now.color) set) }
     {

@@ -7,12 +7,12 @@ ghost use Rattle.pg_journeys.specs.inner.Resting.{lifted};
 
 use pg_board::{Board, Color, Kind, Square, SquareSet};
 
-// The first sixteen men of a colour, by their squares in ascending order.
+/// The men of a colour, sixteen at most, by their squares in ascending order: the first `count` of each list.
 #[derive(Clone, Copy)]
-pub(crate) struct Men {
-    pub(crate) count: usize,
-    pub(crate) kinds: [Kind; 16],
-    pub(crate) squares: [Square; 16],
+pub struct Men {
+    pub count: usize,
+    pub kinds: [Kind; 16],
+    pub squares: [Square; 16],
 }
 
 impl Men {
@@ -27,8 +27,8 @@ impl Men {
     }
 }
 
-// The men of a colour on a board, without those on a set of squares.
-pub(crate) fn men_without(board: &Board, color: Color, resting: SquareSet) -> Men
+/// The men of a colour on a board, without those on a set of squares: at most sixteen are left.
+pub fn men_without(board: &Board, color: Color, resting: SquareSet) -> Men
     requires { men color any_man (lifted board.now resting) ≤ 16 }
     ensures all { AreMen (lifted board.now resting) color result }
     ensures count { result.count ≡ men color any_man (lifted board.now resting) }

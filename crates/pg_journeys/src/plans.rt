@@ -229,8 +229,8 @@ fn count_to(side: &Side, aims: &Aims, most: u8, e: usize, man: &Runner) -> u8
     first as u8
 }
 
-// Where a way counts the man on a square.
-pub(crate) fn counted(color: Color, way: Option<Wing>, origin: Square) -> Square
+/// Where a way counts the man on a square: the king and the rook of a castling on their castled squares.
+pub fn counted(color: Color, way: Option<Wing>, origin: Square) -> Square
     ensures { result ≡ counted_on color way origin }
 {
     match way {
@@ -247,8 +247,8 @@ pub(crate) fn counted(color: Color, way: Option<Wing>, origin: Square) -> Square
     }
 }
 
-// What a way counts beside the paths.
-pub(crate) fn charge(way: Option<Wing>) -> u8
+/// What a way counts beside the paths: one for a castling.
+pub fn charge(way: Option<Wing>) -> u8
     ensures value { result ≡ charge_of way }
     ensures low { result ≤ 1 }
 {
@@ -459,8 +459,8 @@ pub(crate) fn costs_in(
     }
 }
 
-// The squares from the king to the rook before they castle.
-fn span(color: Color, wing: Wing) -> SquareSet
+/// The squares from the king to the rook before they castle.
+pub fn span(color: Color, wing: Wing) -> SquareSet
     ensures { IsSetOf result (IsOnSpan color wing) }
 {
     match (color, wing) {

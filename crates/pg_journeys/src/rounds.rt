@@ -268,16 +268,16 @@ fn last_facts(
     Some(facts)
 }
 
-// Whether each wall of the diagram has its pawn.
-pub(crate) fn has_walls(diagram: &Diagram, position: &Position) -> bool
+/// Whether each wall of the diagram, a pawn on its home rank, stands in the position.
+pub fn has_walls(diagram: &Diagram, position: &Position) -> bool
     ensures { IsTrue result ↔ HasWalls diagram.now position.now }
 {
     let goal = diagram.board();
     !walls(&goal).meets(position.board().differing(&goal))
 }
 
-// Whether the position has fewer men of a colour than the diagram.
-pub(crate) fn has_fewer(diagram: &Diagram, position: &Position) -> bool
+/// Whether the position has fewer men of a colour than the diagram.
+pub fn has_fewer(diagram: &Diagram, position: &Position) -> bool
     ensures { IsTrue result ↔ HasFewer diagram.now position.now }
 {
     let goal = diagram.board();
@@ -286,8 +286,8 @@ pub(crate) fn has_fewer(diagram: &Diagram, position: &Position) -> bool
         || all_men(&board, Color::Black) < all_men(&goal, Color::Black)
 }
 
-// Whether the position has at most sixteen men of each colour.
-pub(crate) fn has_few(position: &Position) -> bool
+/// Whether the position has at most sixteen men of each colour.
+pub fn has_few(position: &Position) -> bool
     ensures { IsTrue result ↔ HasFew position.now }
 {
     let board = position.board();
