@@ -1,0 +1,13 @@
+mod LaneLemmas
+mod RowLemmas
+mod ClosingLemmas
+mod LeastLemmas
+mod Listings
+mod Parties
+mod Billing
+mod Unlifted
+mod Openings
+mod HalfRows
+mod Paying
+mod MadeHalves
+mod Cheapness

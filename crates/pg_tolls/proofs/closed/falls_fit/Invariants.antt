@@ -1,0 +1,17 @@
+use Rattle.std.proofs.Common.{◌≡◌, ◌<◌, ◌≤◌, ◌+◌, ◌*◌, ℕ, true, false}
+use Rattle.pg_board.specs.Bits.{has}
+use Rattle.pg_board.specs.Men.{other}
+use Rattle.pg_board.specs.Tally.{count_below}
+use Rattle.pg_journeys.specs.Known.{known}
+use Rattle.pg_tolls.specs.Stated.{stated}
+use Rattle.pg_tolls.specs.inner.Tables.{raised}
+use Rattle.pg_tolls.specs.inner.Closing.{cell}
+use Rattle.pg_tolls.proofs.closed.falls_fit.Given as goal
+
+abbrev pub invariant-loop-square : goal.invariant-loop-square
+invariant-loop-square l =
+    (s : ℕ) → s < 64 → (known l.ground.facts).lands (other l.ground.color) s ≡ true → has l.left s ≡ false →
+    cell l.rows s 15 + raised (stated l.tariff) (other l.ground.color) s ≤ 128 * l.marks + 255
+
+abbrev pub decreases-loop-square : goal.decreases-loop-square
+decreases-loop-square l = count_below (has l.left) 64

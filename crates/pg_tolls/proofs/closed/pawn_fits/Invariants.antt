@@ -1,0 +1,6 @@
+use Rattle.pg_journeys.specs.Known.{known}
+use Rattle.pg_tolls.specs.inner.Closing.{ArePawnSteps}
+use Rattle.pg_tolls.proofs.closed.pawn_fits.Given as goal
+
+abbrev pub invariant-loop-at : goal.invariant-loop-at
+invariant-loop-at l = ArePawnSteps (known l.ground.facts) l.ground.color l.weight l.rows l.marked l.at

@@ -1,0 +1,8 @@
+use Rattle.pg_travel.proofs.TakenSets.{fewer}
+use Rattle.pg_tolls.proofs.filling.offer.Goals as goal
+
+pub loop-square-smaller-then-differ : goal.loop-square-smaller-then-differ
+loop-square-smaller-then-differ c = fewer c.loop-square.left c.pop_first.new.self c.in-Some.square c.in-Some.ensures.taken c.in-Some.ensures.rest
+
+pub loop-square-smaller : goal.loop-square-smaller
+loop-square-smaller c = fewer c.loop-square.left c.pop_first.new.self c.in-Some.square c.in-Some.ensures.taken c.in-Some.ensures.rest

@@ -1,0 +1,5 @@
+use Rattle.pg_tolls.specs.lemmas.TariffLemmas.{tariff_law}
+use Rattle.pg_tolls.proofs.laws.tariff_law.Goals as goal
+
+pub returns : goal.returns
+returns c = tariff_law

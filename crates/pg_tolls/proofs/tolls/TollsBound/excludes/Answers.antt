@@ -1,0 +1,15 @@
+use Rattle.std.proofs.Common.{◌&&◌, Bool, sym, ap, ◌∙◌}
+use Rattle.pg_tolls.specs.Stated.{stated}
+use Rattle.pg_tolls.specs.lemmas.DecidingHalves.{halves_test, halves_is}
+use Rattle.pg_tolls.specs.lemmas.Soundness.{test_tolls}
+use Rattle.pg_tolls.proofs.tolls.TollsBound.excludes.Goals as goal
+
+pub returns-then-eq-clause-fixed : goal.returns-then-eq-clause-fixed
+returns-then-eq-clause-fixed c =
+    halves_is c.args.self.now.white c.args.self.now.black c.args.self.now.diagram c.args.position.now c.args.left c.excludes_by.result c.excludes_by.ensures
+    ∙ ap (λ (b : Bool). b && halves_test c.args.self.now.white c.args.self.now.black c.args.self.now.diagram c.args.position.now c.args.left) (sym (sym c.eq.ensures.value ∙ c.if-eq.true))
+
+pub returns-then-eq-clause-told : goal.returns-then-eq-clause-told
+returns-then-eq-clause-told c = λ t.
+    test_tolls (stated c.args.self.now.tariff) c.args.self.now.diagram c.args.diagram.now c.args.position.now c.args.left c.args.self.now.white c.args.self.now.black c.args.self.now.sound
+    (sym (returns-then-eq-clause-fixed c) ∙ t)

@@ -1,0 +1,6 @@
+pub mod Tables
+pub mod Closing
+pub mod Values
+pub mod Bills
+pub mod Excluding
+pub mod Halves

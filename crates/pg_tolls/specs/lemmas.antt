@@ -1,0 +1,12 @@
+pub mod Takes
+pub mod MenSums
+pub mod Accounts
+pub mod SparedAccounts
+pub mod GameAccounts
+pub mod TariffLemmas
+pub mod Listings
+pub mod WalksBelow
+pub mod Cheapest
+pub mod DecidingCosts
+pub mod DecidingHalves
+pub mod Soundness

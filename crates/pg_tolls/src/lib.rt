@@ -1,0 +1,20 @@
+//! The bound by tolls: what a capture on a square costs the one colour, it spares the other.
+#![tactic(auto)]
+
+mod closed;
+mod excluding;
+mod filling;
+mod half;
+mod laws;
+mod leasts;
+mod making;
+mod rows;
+mod tables;
+mod tariff;
+mod tolls;
+mod values;
+
+pub use laws::{accounts_law, tariff_law, tolls_bound_law};
+pub use leasts::Leasts;
+pub use tariff::Tariff;
+pub use tolls::Tolls;
