@@ -1,5 +1,5 @@
-//! Tests of what no contract of `pg_assignments`, `pg_captures`, `pg_pawns`, `pg_travel`, `pg_journeys` and `pg_prices`
-//! says. They stand apart, since a crate that has tests is proved twice, without them and with them.
+//! Tests of what no contract of `pg_assignments`, `pg_captures`, `pg_pawns`, `pg_travel`, `pg_journeys`, `pg_tolls` and
+//! `pg_prices` says. They stand apart, since a crate that has tests is proved twice, without them and with them.
 #![tactic(auto)]
 
 #[cfg(test)]
@@ -14,5 +14,7 @@ mod pawns;
 mod prices;
 #[cfg(test)]
 mod texts;
+#[cfg(test)]
+mod tolls;
 #[cfg(test)]
 mod travel;

@@ -79,7 +79,7 @@ pub(crate) fn check_bound<B: Bound>(rt: &impl Abort, bound: &B, table: &str) {
     }
 }
 
-fn square_of(rt: &impl Abort, name: &[u8]) -> Square {
+pub(crate) fn square_of(rt: &impl Abort, name: &[u8]) -> Square {
     assert!(rt; name.len() == 2);
     Square::new(name[0].wrapping_sub(b'`'), name[1].wrapping_sub(b'0')).expect(rt, "a square")
 }

@@ -23,4 +23,10 @@ impl Dice {
             Err(_) => 0,
         }
     }
+    // A number from `least` to `most`.
+    pub(crate) fn between(&mut self, least: i16, most: i16) -> i16 {
+        let count = usize::from(most.abs_diff(least)).saturating_add(1);
+        let drawn = i16::try_from(self.below(count)).unwrap_or(0);
+        least.saturating_add(drawn)
+    }
 }

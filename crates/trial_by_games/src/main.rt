@@ -1,49 +1,52 @@
-//! Tries the bound by journeys with games: `trial_by_games GAMES PLIES` plays so many games of up to so many plies from
-//! the initial array, each move drawn by a fixed rule, and asks the bound of each position of a game with the plies
-//! that are left of it and the diagram of its end. None may be excluded. Captures, promotions and castling are drawn
-//! more often than other moves. Prints how many positions were asked, the same at each run. Anything else ends with a
-//! line on standard error and status 1.
+//! Tries the bounds by journeys and by tolls with games: `trial_by_games GAMES PLIES` plays so many games of up to so
+//! many plies from the initial array, each move drawn by a fixed rule, and asks each bound of each position of a game
+//! with the plies that are left of it and the diagram of its end. None may be excluded. Captures, promotions and
+//! castling are drawn more often than other moves. The bound by tolls is asked by two tariffs a game: a drawn one, and
+//! one with tolls where the game captures alone. Prints how many positions were asked of each, and at how many the
+//! cheapest plans by a tariff cost all that the plies pay for, the same at each run. Anything else ends with a line on
+//! standard error and status 1.
 #![tactic(auto)]
 
+mod asking;
 mod dice;
 mod play;
 mod refusal;
+mod tariffs;
 
+use crate::asking::{Tally, ask_journeys, ask_tariff};
 use crate::dice::Dice;
 use crate::play::{Game, play_game};
 use crate::refusal::Refusal;
-use pg_captures::Bound;
-use pg_fen::Diagram;
-use pg_journeys::Journeys;
+use crate::tariffs::{drawn_tariff, tight_tariff};
 use std::alloc::Global;
 use std::env;
 
-// Asks of each position of a game. How many there were.
-fn ask_game(game: &Game, number: u64) -> Result<u64, Refusal> {
-    let diagram = Diagram::of(&game.end);
-    let mut asked = 0u64;
-    let mut left = game.positions.len();
-    for position in game.positions.as_slice() {
-        let plies = u8::try_from(left).unwrap_or(255);
-        if Journeys.excludes(&diagram, position, plies) {
-            return Err(Refusal::Excluded(number, plies));
-        }
-        asked = asked.saturating_add(1);
-        left = left.saturating_sub(1);
-    }
-    Ok(asked)
+// Asks a drawn tariff of all positions of a game, and a tight one.
+fn ask_tariffs(
+    alloc: Global,
+    dice: &mut Dice,
+    game: &Game,
+    number: u64,
+    tally: &mut Tally,
+) -> anyhow::Result<()> {
+    let drawn = drawn_tariff(dice);
+    ask_tariff(alloc, &drawn, game, number, tally)?;
+    let tight = tight_tariff(dice, &game.captures);
+    ask_tariff(alloc, &tight, game, number, tally)
 }
 
-// Plays so many games and asks of all their positions.
-fn ask_games(alloc: Global, games: u64, plies: usize) -> anyhow::Result<u64> {
+// Plays so many games and asks of all their positions. Tariffs are drawn apart from moves.
+fn ask_games(alloc: Global, games: u64, plies: usize) -> anyhow::Result<Tally> {
     let mut dice = Dice::new(1);
-    let mut asked = 0u64;
+    let mut tariff_dice = Dice::new(2);
+    let mut tally = Tally::default();
     for number in 0..games {
         let most = dice.below(plies.saturating_add(1));
         let game = play_game(alloc, &mut dice, most)?;
-        asked = asked.saturating_add(ask_game(&game, number)?);
+        ask_journeys(&game, number, &mut tally)?;
+        ask_tariffs(alloc, &mut tariff_dice, &game, number, &mut tally)?;
     }
-    Ok(asked)
+    Ok(tally)
 }
 
 fn main(rt: HostRuntime) -> anyhow::Result<()> {
@@ -53,7 +56,14 @@ fn main(rt: HostRuntime) -> anyhow::Result<()> {
     let (Some(games), Some(plies)) = (games, plies) else {
         return Err(Refusal::Usage)?;
     };
-    let asked = ask_games(rt.alloc(), games, plies)?;
-    println!(rt; "{games} games, {asked} positions, none excluded")?;
+    let tally = ask_games(rt.alloc(), games, plies)?;
+    println!(rt;
+        "{games} games, {} positions, none excluded",
+        tally.by_journeys
+    )?;
+    println!(rt;
+        "{} positions by tariffs, none excluded, {} with nothing to spare",
+        tally.by_tariffs, tally.without_spare
+    )?;
     Ok(())
 }

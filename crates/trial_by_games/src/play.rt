@@ -1,13 +1,16 @@
 //! Games whose moves are drawn.
 use crate::dice::Dice;
+use pg_board::{Color, Square, SquareSet};
+use pg_captures::victims_of;
 use pg_moves::legal_moves;
 use pg_position::{Move, Position};
 use std::alloc::{AllocError, Global};
 
-// A game: the positions before each move, and the last one.
+// A game: the positions before each move, the squares where White and where Black captured, and the last position.
 #[derive(Drop)]
 pub(crate) struct Game {
     pub(crate) positions: Vec<Position>,
+    pub(crate) captures: [SquareSet; 2],
     pub(crate) end: Position,
 }
 
@@ -33,9 +36,20 @@ fn drawn<'a>(dice: &mut Dice, position: &Position, moves: &'a [Move]) -> Option<
     chosen
 }
 
+// The square that a move went to, where the colour captured by it; else none.
+fn captured_on(color: Color, before: &Position, after: &Position, to: Square) -> SquareSet {
+    if victims_of(&after.board(), color) < victims_of(&before.board(), color) {
+        SquareSet::single(to)
+    } else {
+        SquareSet::empty()
+    }
+}
+
 // Plays so many plies, or fewer where no move is legal.
 pub(crate) fn play_game(alloc: Global, dice: &mut Dice, plies: usize) -> Result<Game, AllocError> {
     let mut positions = Vec::new(alloc);
+    let mut white = SquareSet::empty();
+    let mut black = SquareSet::empty();
     let mut end = Position::array();
     for _ in 0..plies {
         let moves = legal_moves(alloc, &end)?;
@@ -45,8 +59,14 @@ pub(crate) fn play_game(alloc: Global, dice: &mut Dice, plies: usize) -> Result<
         let Ok(next) = end.play(*m) else {
             break;
         };
+        white = white | captured_on(Color::White, &end, &next, m.to);
+        black = black | captured_on(Color::Black, &end, &next, m.to);
         positions.push(end)?;
         end = next;
     }
-    Ok(Game { positions, end })
+    Ok(Game {
+        positions,
+        captures: [white, black],
+        end,
+    })
 }

@@ -7,4 +7,6 @@ pub(crate) enum Refusal {
     Usage,
     #[error("game {0} is excluded with {1} plies left")]
     Excluded(u64, u8),
+    #[error("game {0} is excluded by a tariff with {1} plies left")]
+    ExcludedByTariff(u64, u8),
 }
