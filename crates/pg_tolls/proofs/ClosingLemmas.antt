@@ -17,7 +17,7 @@ use Rattle.pg_journeys.specs.declared.men.Men.{Men}
 use Rattle.pg_tolls.specs.Tariffs.{Tariff}
 use Rattle.pg_tolls.specs.Marks.{IsMark}
 use Rattle.pg_tolls.specs.inner.Tables.{entry, raised, IsWithin, IsClosed}
-use Rattle.pg_tolls.specs.inner.Closing.{nth, cell, AreGrown, AreLesser, AreAtMost, IsLeast, ArePieceSteps, ArePawnSteps, IsPieceClosed, IsPawnClosed, AreStepsClosed, AreFalls, AreAllFalls, IsLayer, HasLowTolls}
+use Rattle.pg_tolls.specs.inner.Closing.{nth, cell, AreGrown, AreLesser, AreAtMost, IsLeast, ArePieceSteps, ArePawnSteps, IsPieceClosed, IsPawnClosed, AreStepsClosed, AreFalls, AreAllFalls, IsLayer, AreLayers, HasLowTolls}
 use Rattle.pg_tolls.proofs.RowLemmas.{step_within, within_behind}
 
 -- ---- a piece's steps
@@ -93,7 +93,7 @@ pawn_next f c weight rows marked i m e h before = record {
 }
 
 -- ---- all layers
-piece_of : (t : Tariff) (f : Facts) (c : Color) (table : List (List ℕ)) (j : ℕ) (k : Kind) → AreStepsClosed t f c table j → k ≢ Pawn → IsPieceClosed t f c table j k
+pub piece_of : (t : Tariff) (f : Facts) (c : Color) (table : List (List ℕ)) (j : ℕ) (k : Kind) → AreStepsClosed t f c table j → k ≢ Pawn → IsPieceClosed t f c table j k
 piece_of t f c table j Pawn h ne = absurd (ne refl)
 piece_of t f c table j Knight h ne = h.knight
 piece_of t f c table j Bishop h ne = h.bishop
@@ -101,7 +101,7 @@ piece_of t f c table j Rook h ne = h.rook
 piece_of t f c table j Queen h ne = h.queen
 piece_of t f c table j King h ne = h.king
 
-falls_of : (t : Tariff) (f : Facts) (c : Color) (table : List (List ℕ)) (j : ℕ) (k : Kind) → AreAllFalls t f c table j → k ≢ King → AreFalls t f c table j k
+pub falls_of : (t : Tariff) (f : Facts) (c : Color) (table : List (List ℕ)) (j : ℕ) (k : Kind) → AreAllFalls t f c table j → k ≢ King → AreFalls t f c table j k
 falls_of t f c table j Pawn h ne = h.pawn
 falls_of t f c table j Knight h ne = h.knight
 falls_of t f c table j Bishop h ne = h.bishop
@@ -200,7 +200,7 @@ layers_next t f c goals table i m e here before = λ j l. elim (eqb_tells j i) [
   | inr w ↦ (let ne : j ≢ i = w.1 in before j (omega arith))
 ]
 
-pub closed_by : (t : Tariff) (f : Facts) (c : Color) (goals : Men) (most : ℕ) (table : List (List ℕ)) → ((j : ℕ) → j ≤ most → IsLayer t f c goals table j) → IsClosed t f c goals most table
+pub closed_by : (t : Tariff) (f : Facts) (c : Color) (goals : Men) (most : ℕ) (table : List (List ℕ)) → AreLayers t f c goals most table → IsClosed t f c goals most table
 closed_by t f c goals most table layers = record {
   goal = λ j e lj le. (layers j lj).ends e le;
   fall = λ j s k lj ls ne few lands. falls_of t f c table j k ((layers j lj).falls few) ne s ls lands;

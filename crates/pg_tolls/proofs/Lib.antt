@@ -11,3 +11,7 @@ mod HalfRows
 mod Paying
 mod MadeHalves
 mod Cheapness
+mod FillingLemmas
+mod SameCosts
+mod TightHalves
+mod MemoryLemmas

@@ -1,5 +1,5 @@
 -- The halves that are made of a tariff are its halves.
-use Rattle.std.proofs.Common.{◌≡◌, ◌≤◌, subst, ◌∙◌}
+use Rattle.std.proofs.Common.{◌≡◌, ◌≢◌, ◌≤◌, [], subst, ◌∙◌}
 use Rattle.pg_board.specs.declared.man.Color.{Color}
 use Rattle.pg_board.specs.declared.man.Color.TheVariants.{White, Black}
 use Rattle.pg_board.specs.Men.{other}
@@ -9,6 +9,7 @@ use Rattle.pg_journeys.specs.Facts.{Facts}
 use Rattle.pg_tolls.specs.Tariffs.{Tariff}
 use Rattle.pg_tolls.specs.Charges.{AreOfWalls}
 use Rattle.pg_tolls.specs.inner.Halves.{AreLost, IsInRange, IsHalf}
+use Rattle.pg_tolls.specs.inner.Remembering.{IsTight, MayBeTight}
 use Rattle.pg_tolls.specs.lemmas.Soundness.{AreSound}
 use Rattle.pg_tolls.specs.declared.half.Half.{Half}
 
@@ -39,3 +40,8 @@ made_along t f e b d x c a facts board color made =
 pub sound_of : (t : Tariff) (f g h : Facts) (b d : Placement) (x y : Half) (u v : Color) → b ≡ d → g ≡ f → h ≡ f → u ≡ White → v ≡ Black → x.color ≡ u → y.color ≡ v → AreOfWalls f b → Made t g b x u → Made t h b y v → AreSound t d x y
 sound_of t f g h b d x y u v board first second white black is_u is_v walls one two =
     both_made t f d x y (is_u ∙ white) (is_v ∙ black) (subst (λ (z : Placement). AreOfWalls f z) board walls) (made_along t f g b d x u White first board white one) (made_along t f h b d y v Black second board black two)
+
+-- and it may be tight for the diagram
+pub tight_of : (t : Tariff) (f g : Facts) (b d : Placement) (x : Half) → b ≡ d → g ≡ f → AreOfWalls f b → (x.rows.items ≢ [] → IsTight t g b x) → MayBeTight t d x
+tight_of t f g b d x board facts walls tight full =
+    (f, subst (λ (z : Placement). AreOfWalls f z) board walls, subst (λ (z : Placement). IsTight t f z x) board (subst (λ (z : Facts). IsTight t z b x) facts (tight full)))

@@ -5,10 +5,9 @@ ghost use Rattle.pg_board.specs.declared.man.Kind.TheVariants.{Pawn, King};
 ghost use Rattle.pg_journeys.specs.Known.{known};
 ghost use Rattle.pg_journeys.specs.inner.Grounds.{IsGround};
 ghost use Rattle.pg_tolls.specs.Stated.{stated};
-ghost use Rattle.pg_tolls.specs.inner.Tables.{IsClosed};
 ghost use Rattle.pg_tolls.specs.inner.Closing.{AreAtMost, AreMarked, AreComing, AreLowOn, ArePieceSteps, ArePawnSteps};
 ghost use Rattle.pg_tolls.specs.inner.Closing.{IsPromotedTo, ArePromoted, IsPieceClosed, IsPawnClosed, AreStepsClosed};
-ghost use Rattle.pg_tolls.specs.inner.Closing.{AreFalls, AreAllFalls, AreGoals, IsLayer};
+ghost use Rattle.pg_tolls.specs.inner.Closing.{AreFalls, AreAllFalls, AreGoals, IsLayer, AreLayers};
 
 use crate::rows::{NO_ROWS, Row, Rows, grown, least_of, lesser, raised, rows_of, taken};
 use crate::tariff::Tariff;
@@ -261,7 +260,7 @@ pub(crate) fn is_closed(
     requires goals { goals.now.count ≤ 16 }
     requires most { most ≤ 16 }
     ensures { IsTrue result →
-        IsClosed (stated tariff.now) (known ground.now.facts) ground.now.color goals.now most table.now }
+        AreLayers (stated tariff.now) (known ground.now.facts) ground.now.color goals.now most table.now }
 {
     if table.len() != (most + 1) * 384 {
         return false;

@@ -5,7 +5,9 @@ ghost use Rattle.pg_tolls.specs.inner.Excluding.{HalvesExclude, IsPaidFor, share
 ghost use Rattle.pg_tolls.specs.inner.Values.{marks_for};
 
 use crate::half::Half;
-use crate::values::{marks_of, value};
+use crate::memory::value_by;
+use crate::tolls::Tolls;
+use crate::values::marks_of;
 use pg_captures::{all_men, plies_left};
 use pg_fen::Diagram;
 use pg_journeys::{has_few, has_fewer, has_walls};
@@ -39,13 +41,15 @@ fn share(half: &Half, diagram: &Diagram, position: &Position, left: u8) -> u32
 }
 
 // Whether both colours can be paid for, where neither has more than sixteen men.
-fn is_paid_for(white: &Half, black: &Half, diagram: &Diagram, position: &Position, left: u8) -> bool
+fn is_paid_for(bound: &Tolls, position: &Position, left: u8) -> bool
     requires { HasFew position.now }
-    ensures { IsTrue result ↔ IsPaidFor white.now black.now diagram.now position.now left }
+    ensures { IsTrue result ↔
+        IsPaidFor bound.now.white bound.now.black bound.now.diagram position.now left }
 {
-    match value(white, diagram, position) {
+    let (diagram, white, black) = (&bound.diagram, &bound.white, &bound.black);
+    match value_by(&bound.white_memory, &bound.tariff, diagram, white, position) {
         None => false,
-        Some(first) => match value(black, diagram, position) {
+        Some(first) => match value_by(&bound.black_memory, &bound.tariff, diagram, black, position) {
             None => false,
             Some(second) => {
                 let limit = u64::from(share(white, diagram, position, left))
@@ -56,22 +60,17 @@ fn is_paid_for(white: &Half, black: &Half, diagram: &Diagram, position: &Positio
     }
 }
 
-// Whether the halves of both colours exclude the diagram: a wall of it has lost its pawn, or men of a colour are
-// missing; or, where no colour has more than sixteen men, both together cannot be paid for.
-pub(crate) fn excludes_by(
-    white: &Half,
-    black: &Half,
-    diagram: &Diagram,
-    position: &Position,
-    left: u8,
-) -> bool
-    ensures { IsTrue result ↔ HalvesExclude white.now black.now diagram.now position.now left }
+// Whether the halves of a bound exclude its diagram: a wall of it has lost its pawn, or men of a colour are missing; or,
+// where no colour has more than sixteen men, both together cannot be paid for.
+pub(crate) fn is_excluded(bound: &Tolls, position: &Position, left: u8) -> bool
+    ensures { IsTrue result ↔
+        HalvesExclude bound.now.white bound.now.black bound.now.diagram position.now left }
 {
-    if !has_walls(diagram, position) || has_fewer(diagram, position) {
+    if !has_walls(&bound.diagram, position) || has_fewer(&bound.diagram, position) {
         return true;
     }
     if !has_few(position) {
         return false;
     }
-    !is_paid_for(white, black, diagram, position, left)
+    !is_paid_for(bound, position, left)
 }

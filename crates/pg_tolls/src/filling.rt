@@ -1,8 +1,16 @@
-//! Fills tables of what walks are charged. Nothing is proved of it but that it is safe and ends: a table is tested
-//! before it is used.
-ghost use Rattle.std.specs.Prelude.{◌≢◌, ◌≤◌};
+//! Fills tables of what walks are charged. No closed table has higher numbers than one that is filled here. Whether it
+//! is closed is tested before it is used.
+ghost use Rattle.std.specs.Prelude.{◌≡◌, ◌≢◌, ℕ, suc, ◌≤◌, IfOk, OnOk};
+ghost use Rattle.pg_board.specs.Men.{kind_eq, other};
 ghost use Rattle.pg_board.specs.declared.man.Kind.TheVariants.{Pawn};
+ghost use Rattle.pg_journeys.specs.Known.{known};
+ghost use Rattle.pg_journeys.specs.declared.men.Men.{Men as AnyMen};
 ghost use Rattle.pg_journeys.specs.inner.Grounds.{IsGround};
+ghost use Rattle.pg_tolls.specs.Stated.{stated};
+ghost use Rattle.pg_tolls.specs.inner.Closing.{HasLowTolls};
+ghost use Rattle.pg_tolls.specs.inner.Highest.{AreBelow, IsOffer, AreLeftOver, AreBlank, KeepsSteps, KeepsTakes};
+ghost use Rattle.pg_tolls.specs.inner.Highest.{KeepsPawns, KeepsPromoted, KeepsFalls, KeepsEnds, KeepsOver};
+ghost use Rattle.pg_tolls.specs.inner.Highest.{AreHigh, IsHigh, IsBlank, AreHighest, AreLong, with_layer};
 
 use crate::rows::{NO_ROWS, Row, Rows, grown, least_of, lesser, raised, taken};
 use crate::tariff::Tariff;
@@ -37,23 +45,34 @@ fn differ(first: &Row, second: &Row) -> bool {
 
 // What a step of a man of the ground's colour is charged.
 fn weight(tariff: &Tariff, ground: &Ground) -> u16
-    ensures { result ≤ 255 }
+    ensures value { result ≡ (stated tariff.now).weight ground.now.color }
+    ensures low { result ≤ 255 }
 {
     u16::from(tariff.weight(ground.color))
 }
 
+// The square, if its rows differ.
+#[inline(always)]
+fn changed_on(square: Square, old: &Row, new: &Row) -> SquareSet {
+    if differ(old, new) {
+        SquareSet::single(square)
+    } else {
+        SquareSet::empty()
+    }
+}
+
 // Lowers the rows of squares to an offer, and says which changed.
 #[inline(always)]
-fn offer(rows: &mut Rows, squares: SquareSet, offered: &Row) -> SquareSet {
+fn offer(rows: &mut Rows, squares: SquareSet, offered: &Row) -> SquareSet
+    ensures { (b : ℕ → ℕ → ℕ) → IsOffer b squares offered.now → AreBelow b rows.old → AreBelow b rows.new }
+{
     let mut changed = SquareSet::empty();
     let mut left = squares;
     while let Some(square) = left.pop_first() {
         let at = usize::from(square.index());
         let lower = lesser(&rows[at], offered);
-        if differ(&rows[at], &lower) {
-            rows[at] = lower;
-            changed = changed | SquareSet::single(square);
-        }
+        changed = changed | changed_on(square, &rows[at], &lower);
+        rows[at] = lower;
     }
     changed
 }
@@ -70,6 +89,7 @@ fn spread_once(
     requires sound { IsGround ground.now }
     requires weight { weight ≤ 255 }
     requires piece { kind ≢ Pawn }
+    ensures { KeepsSteps (known ground.now.facts) ground.now.color kind weight rows.old rows.new }
 {
     let mut next = SquareSet::empty();
     let mut left = changed;
@@ -85,6 +105,7 @@ fn spread(rows: &mut Rows, ground: &Ground, kind: Kind, weight: u16, changed: Sq
     requires sound { IsGround ground.now }
     requires weight { weight ≤ 255 }
     requires piece { kind ≢ Pawn }
+    ensures { KeepsSteps (known ground.now.facts) ground.now.color kind weight rows.old rows.new }
 {
     let mut wave = changed;
     for _ in 0..64usize {
@@ -119,6 +140,7 @@ fn offer_marked(
 ) -> SquareSet
     requires sound { IsGround ground.now }
     requires piece { kind ≢ Pawn }
+    ensures { KeepsTakes (stated tariff.now) (known ground.now.facts) ground.now.color kind before.now rows.old rows.new }
 {
     let mut changed = SquareSet::empty();
     let mut left = cheap;
@@ -130,11 +152,15 @@ fn offer_marked(
     changed
 }
 
-// Adds a mark that is left over.
-fn add_mark(rows: &mut Rows) {
+// The rows where a mark more is left over.
+fn left_over(rows: &Rows) -> Rows
+    ensures { AreLeftOver rows.now result 64 }
+{
+    let mut over = NO_ROWS;
     for at in 0..64usize {
-        rows[at] = grown(&rows[at], MARK);
+        over[at] = grown(&rows[at], MARK);
     }
+    over
 }
 
 // The squares from where there is some walk.
@@ -149,23 +175,40 @@ fn reaching(rows: &Rows) -> SquareSet {
 }
 
 // Writes what being captured by no step is charged.
-fn add_falls(rows: &mut Rows, tariff: &Tariff, ground: &Ground) {
+fn add_falls(rows: &mut Rows, tariff: &Tariff, ground: &Ground)
+    ensures { KeepsFalls (stated tariff.now) (known ground.now.facts) ground.now.color rows.old rows.new }
+{
     let by = ground.color.other();
     let mut left = ground.facts.lands(by);
     while let Some(square) = left.pop_first() {
-        rows[usize::from(square.index())][15] = 255 - raised(tariff, by, square);
+        let at = usize::from(square.index());
+        let mut row = rows[at];
+        row[15] = 255 - raised(tariff, by, square);
+        rows[at] = row;
     }
 }
 
+// Whether both are the same kind.
+fn same_kind(one: Kind, other: Kind) -> bool
+    ensures { result ≡ kind_eq one other }
+{
+    one.number() == other.number()
+}
+
 // Writes what walks of no step are charged.
-fn add_ends(rows: &mut Rows, tariff: &Tariff, ground: &Ground, goals: &Men, kind: Kind) {
-    if goals.count < 16 && kind != Kind::King {
-        add_falls(rows, tariff, ground);
-    }
+fn add_ends(rows: &mut Rows, tariff: &Tariff, ground: &Ground, goals: &Men, kind: Kind)
+    ensures { KeepsEnds (stated tariff.now) (known ground.now.facts) ground.now.color goals.now kind rows.old rows.new }
+{
     for e in 0..goals.count.min(16) {
-        if goals.kinds[e] == kind {
-            rows[usize::from(goals.squares[e].index())][e] = 0;
+        if same_kind(goals.kinds[e], kind) {
+            let at = usize::from(goals.squares[e].index());
+            let mut row = rows[at];
+            row[e] = 0;
+            rows[at] = row;
         }
+    }
+    if goals.count < 16 && !same_kind(kind, Kind::King) {
+        add_falls(rows, tariff, ground);
     }
 }
 
@@ -173,6 +216,8 @@ fn add_ends(rows: &mut Rows, tariff: &Tariff, ground: &Ground, goals: &Men, kind
 fn first_piece(rows: &mut Rows, tariff: &Tariff, ground: &Ground, goals: &Men, kind: Kind)
     requires sound { IsGround ground.now }
     requires piece { kind ≢ Pawn }
+    requires blank { AreBlank rows.old }
+    ensures { AreHigh (stated tariff.now) (known ground.now.facts) ground.now.color goals.now 0 kind rows.new }
 {
     add_ends(rows, tariff, ground, goals, kind);
     let changed = reaching(rows);
@@ -183,15 +228,20 @@ fn first_piece(rows: &mut Rows, tariff: &Tariff, ground: &Ground, goals: &Men, k
 fn next_piece(rows: &mut Rows, tariff: &Tariff, ground: &Ground, kind: Kind, cheap: SquareSet)
     requires sound { IsGround ground.now }
     requires piece { kind ≢ Pawn }
+    ensures { (goals : AnyMen) (j : ℕ) → j ≤ 16 → HasLowTolls (stated tariff.now) (other ground.now.color) 64 →
+        AreHigh (stated tariff.now) (known ground.now.facts) ground.now.color goals j kind rows.old →
+        AreHigh (stated tariff.now) (known ground.now.facts) ground.now.color goals (suc j) kind rows.new }
 {
     let before = *rows;
-    add_mark(rows);
+    *rows = left_over(&before);
     let changed = offer_marked(rows, tariff, ground, kind, &before, cheap);
     spread(rows, ground, kind, weight(tariff, ground), changed);
 }
 
 // Lowers a pawn's rows on the last rank to those of a piece that he is there.
-fn promote(pawns: &mut Rows, color: Color, piece: &Rows) {
+fn promote(pawns: &mut Rows, color: Color, piece: &Rows)
+    ensures { KeepsPromoted color piece.now pawns.old pawns.new }
+{
     let mut left = SquareSet::of_rank(last_rank(color));
     while let Some(square) = left.pop_first() {
         let at = usize::from(square.index());
@@ -213,6 +263,7 @@ fn from_last_rank(color: Color, at: u8) -> Square
 fn advance(pawns: &mut Rows, ground: &Ground, weight: u16, taken: &Rows)
     requires sound { IsGround ground.now }
     requires weight { weight ≤ 255 }
+    ensures { KeepsPawns (known ground.now.facts) ground.now.color weight taken.now pawns.old pawns.new }
 {
     for at in 0..64u8 {
         let square = from_last_rank(ground.color, at);
@@ -228,6 +279,7 @@ fn advance(pawns: &mut Rows, ground: &Ground, weight: u16, taken: &Rows)
 // Lowers the rows of pawns by those of the pieces, and by rows before the mark of a step.
 fn fill_pawns(layer: &mut Layer, tariff: &Tariff, ground: &Ground, taken: &Rows)
     requires { IsGround ground.now }
+    ensures { KeepsOver (stated tariff.now) (known ground.now.facts) ground.now.color taken.now layer.old layer.new }
 {
     promote(&mut layer.pawns, ground.color, &layer.knights);
     promote(&mut layer.pawns, ground.color, &layer.bishops);
@@ -238,7 +290,9 @@ fn fill_pawns(layer: &mut Layer, tariff: &Tariff, ground: &Ground, taken: &Rows)
 
 // Fills a layer with no mark left.
 fn fill_first(layer: &mut Layer, tariff: &Tariff, ground: &Ground, goals: &Men)
-    requires { IsGround ground.now }
+    requires sound { IsGround ground.now }
+    requires blank { IsBlank layer.old }
+    ensures { IsHigh (stated tariff.now) (known ground.now.facts) ground.now.color goals.now 0 layer.new }
 {
     first_piece(&mut layer.knights, tariff, ground, goals, Kind::Knight);
     first_piece(&mut layer.bishops, tariff, ground, goals, Kind::Bishop);
@@ -252,6 +306,9 @@ fn fill_first(layer: &mut Layer, tariff: &Tariff, ground: &Ground, goals: &Men)
 // Makes of a layer the one with one more mark left.
 fn fill_next(layer: &mut Layer, tariff: &Tariff, ground: &Ground, cheap: SquareSet)
     requires { IsGround ground.now }
+    ensures { (goals : AnyMen) (j : ℕ) → j ≤ 16 → HasLowTolls (stated tariff.now) (other ground.now.color) 64 →
+        IsHigh (stated tariff.now) (known ground.now.facts) ground.now.color goals j layer.old →
+        IsHigh (stated tariff.now) (known ground.now.facts) ground.now.color goals (suc j) layer.new }
 {
     next_piece(&mut layer.knights, tariff, ground, Kind::Knight, cheap);
     next_piece(&mut layer.bishops, tariff, ground, Kind::Bishop, cheap);
@@ -259,12 +316,15 @@ fn fill_next(layer: &mut Layer, tariff: &Tariff, ground: &Ground, cheap: SquareS
     next_piece(&mut layer.queens, tariff, ground, Kind::Queen, cheap);
     next_piece(&mut layer.kings, tariff, ground, Kind::King, cheap);
     let marked = taken(tariff, ground.color, &layer.pawns);
-    add_mark(&mut layer.pawns);
+    layer.pawns = left_over(&layer.pawns);
     fill_pawns(layer, tariff, ground, &marked);
 }
 
 // Puts the rows of a layer behind those of a table.
-fn add_layer(table: &mut Vec<Row>, layer: &Layer) -> Result<(), AllocError> {
+fn add_layer(table: &mut Vec<Row>, layer: &Layer) -> Result<(), AllocError>
+    ensures added { OnOk result (table.new.items ≡ with_layer table.old.items layer.now) }
+    ensures long { AreLong layer.now }
+{
     table.extend_from_slice(&layer.pawns)?;
     table.extend_from_slice(&layer.knights)?;
     table.extend_from_slice(&layer.bishops)?;
@@ -283,6 +343,9 @@ pub(crate) fn fill(
 ) -> Result<Vec<Row>, AllocError>
     requires sound { IsGround ground.now }
     requires most { most ≤ 16 }
+    requires tolls { HasLowTolls (stated tariff.now) (other ground.now.color) 64 }
+    ensures { IfOk result (λ table.
+        AreHighest (stated tariff.now) (known ground.now.facts) ground.now.color goals.now (suc most) table.items) }
 {
     let mut layer = Layer {
         pawns: NO_ROWS,
@@ -296,7 +359,7 @@ pub(crate) fn fill(
     let mut table = Vec::with_capacity(alloc, (most + 1) * 384)?;
     fill_first(&mut layer, tariff, ground, goals);
     add_layer(&mut table, &layer)?;
-    for _ in 0..most {
+    for _marks in 0..most {
         fill_next(&mut layer, tariff, ground, cheap);
         add_layer(&mut table, &layer)?;
     }

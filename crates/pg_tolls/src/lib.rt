@@ -8,6 +8,7 @@ mod half;
 mod laws;
 mod leasts;
 mod making;
+mod memory;
 mod rows;
 mod tables;
 mod tariff;

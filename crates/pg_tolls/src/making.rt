@@ -1,14 +1,16 @@
 //! The halves of a tariff for a diagram.
-ghost use Rattle.std.specs.Prelude.{◌≡◌, ℕ, ◌+◌, ◌≤◌, IfOk};
+ghost use Rattle.std.specs.Prelude.{◌≡◌, ◌≢◌, ℕ, ◌+◌, ◌<◌, ◌≤◌, IfOk, []};
 ghost use Rattle.pg_board.specs.Men.{other};
+ghost use Rattle.pg_position.specs.Position.{Stands};
 ghost use Rattle.pg_captures.specs.Counting.{men, any_man};
 ghost use Rattle.pg_journeys.specs.Known.{known};
 ghost use Rattle.pg_journeys.specs.inner.Grounds.{IsGround};
-ghost use Rattle.pg_journeys.specs.inner.Sides.{AreMen};
+ghost use Rattle.pg_journeys.specs.inner.Sides.{AreMen, kind_at, square_at};
 ghost use Rattle.pg_tolls.specs.Charges.{AreOfWalls};
 ghost use Rattle.pg_tolls.specs.Stated.{stated};
 ghost use Rattle.pg_tolls.specs.Tariffs.{cheap, dear};
 ghost use Rattle.pg_tolls.specs.inner.Halves.{AreLost, IsHalf};
+ghost use Rattle.pg_tolls.specs.inner.Remembering.{IsTight};
 ghost use Rattle.pg_tolls.specs.inner.Tables.{raised};
 
 use crate::half::Half;
@@ -37,6 +39,8 @@ pub(crate) fn facts_of_walls(goal: &Board) -> Facts
 fn goals_of(goal: &Board, color: Color) -> Men
     ensures few { result.count ≤ 16 }
     ensures all { men color any_man goal.now ≤ 16 → AreMen goal.now color result }
+    ensures standing { (i : ℕ) → i < result.count →
+        Stands goal.now color (kind_at result i) (square_at result i) }
 {
     if all_men(goal, color) > 16 {
         return Men {
@@ -78,6 +82,8 @@ pub(crate) fn half_of(
     requires { IsGround ground.now }
     ensures color { IfOk result (λ x. x.color ≡ ground.now.color) }
     ensures lost { IfOk result (λ x. AreLost (stated tariff.now) (other ground.now.color) x.lost 64) }
+    ensures tight { IfOk result (λ x. x.rows.items ≢ [] →
+        IsTight (stated tariff.now) (known ground.now.facts) goal.now x) }
     ensures half { IfOk result (λ x. men ground.now.color any_man goal.now ≤ 16 →
         IsHalf (stated tariff.now) (known ground.now.facts) goal.now x) }
 {

@@ -4,7 +4,7 @@ ghost use Rattle.std.specs.Prelude.{◌≡◌, ℕ, suc, ◌*◌, ◌+◌, ◌<�
 ghost use Rattle.pg_tolls.specs.Stated.{stated};
 ghost use Rattle.pg_tolls.specs.inner.Tables.{raised};
 ghost use Rattle.pg_tolls.specs.inner.Closing.{AreLesser, AreGreater, AreCharged, AreGrown};
-ghost use Rattle.pg_tolls.specs.inner.Closing.{AreRowsOf, AreTaken, IsLeast};
+ghost use Rattle.pg_tolls.specs.inner.Closing.{AreRowsOf, AreTaken, IsLeast, IsNoLess};
 
 use crate::tariff::Tariff;
 use pg_board::{Color, Kind, Square, SquareSet};
@@ -60,7 +60,8 @@ pub(crate) fn grown(row: &Row, charge: u16) -> Row
 
 /// The least numbers of the rows of a set of squares.
 pub(crate) fn least_of(rows: &Rows, squares: SquareSet) -> Row
-    ensures { IsLeast rows.now squares result }
+    ensures low { IsLeast rows.now squares result }
+    ensures high { IsNoLess rows.now squares result }
 {
     let mut least = [u16::MAX; 16];
     let mut left = squares;

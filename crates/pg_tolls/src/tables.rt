@@ -1,10 +1,11 @@
 //! Tables of what walks are charged, for one colour: filled, and tested.
-ghost use Rattle.std.specs.Prelude.{◌≤◌, IfOk};
+ghost use Rattle.std.specs.Prelude.{◌≢◌, ◌≤◌, IfOk, []};
 ghost use Rattle.pg_journeys.specs.Known.{known};
 ghost use Rattle.pg_journeys.specs.inner.Grounds.{IsGround};
 ghost use Rattle.pg_tolls.specs.Stated.{stated};
 ghost use Rattle.pg_tolls.specs.inner.Tables.{IsClosed};
 ghost use Rattle.pg_tolls.specs.inner.Closing.{HasLowTolls};
+ghost use Rattle.pg_tolls.specs.inner.Highest.{AreTight};
 
 use crate::closed::is_closed;
 use crate::filling::fill;
@@ -25,7 +26,8 @@ fn look_at_tolls(tariff: &Tariff, color: Color)
 
 /// A table of the least charges of walks of a colour's men, for up to so many marks: by the marks that are left, the
 /// kind and the square of a man, at `(marks * 6 + kind) * 64 + square`, a row with a number for each man of the
-/// diagram, and the last one for being captured. It is empty where the test of it fails.
+/// diagram, and the last one for being captured. No closed table has higher numbers. It is empty where the test of it
+/// fails.
 pub(crate) fn tables_of(
     alloc: Global,
     tariff: &Tariff,
@@ -36,14 +38,16 @@ pub(crate) fn tables_of(
     requires sound { IsGround ground.now }
     requires goals { goals.now.count ≤ 16 }
     requires most { most ≤ 16 }
-    ensures { IfOk result (λ rows.
+    ensures closed { IfOk result (λ rows.
         IsClosed (stated tariff.now) (known ground.now.facts) ground.now.color goals.now most rows.items) }
+    ensures tight { IfOk result (λ rows. rows.items ≢ [] →
+        AreTight (stated tariff.now) (known ground.now.facts) ground.now.color goals.now most rows.items) }
 {
+    look_at_tolls(tariff, ground.color.other());
     let table = fill(alloc, tariff, ground, goals, most)?;
     if is_closed(tariff, ground, goals, most, &table) {
         Ok(table)
     } else {
-        look_at_tolls(tariff, ground.color.other());
         Ok(Vec::new(alloc))
     }
 }

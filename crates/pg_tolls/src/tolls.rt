@@ -5,13 +5,15 @@ ghost use Rattle.pg_journeys.specs.Needs.{AsksForPlans};
 ghost use Rattle.pg_board.specs.Equality.{placement_eq};
 ghost use Rattle.pg_tolls.specs.Charges.{IsLow, TollsHold};
 ghost use Rattle.pg_tolls.specs.Stated.{stated};
+ghost use Rattle.pg_tolls.specs.inner.Remembering.{MayBeTight};
 ghost use Rattle.pg_tolls.specs.lemmas.Soundness.{AreSound};
 ghost use Rattle.pg_tolls.specs.lemmas.DecidingHalves.{halves_test};
 
-use crate::excluding::excludes_by;
+use crate::excluding::is_excluded;
 use crate::half::Half;
 use crate::leasts::{Leasts, cheapest};
 use crate::making::{facts_of_walls, half_of};
+use crate::memory::Memory;
 use crate::tariff::Tariff;
 use pg_board::Color;
 use pg_captures::Bound;
@@ -19,6 +21,7 @@ use pg_fen::Diagram;
 use pg_journeys::{ground_of, has_few, has_fewer, has_walls, steps_table};
 use pg_position::Position;
 use std::alloc::{AllocError, Global};
+use std::cell::RefCell;
 
 /// The bound by tolls, for one diagram and one tariff. Each man of the position becomes a man of the diagram or is
 /// captured; each step costs the weight of his colour, a step marked as a capture the toll of its square beside it,
@@ -28,16 +31,21 @@ use std::alloc::{AllocError, Global};
 /// more than sixteen men it looks at that alone, and of another diagram it says nothing.
 ///
 /// Any tariff is sound. What plans are charged at least is looked up in tables, some 12 KB for each colour and each
-/// number of captures that it may owe, from none. A fate counts at most 254 above the cheapest one of its man, where to
+/// number of captures that it may owe, from none. What a colour's men were charged is remembered, in some 50 KB for each
+/// colour, and looked up where they stand so again. A fate counts at most 254 above the cheapest one of its man, where to
 /// be captured counts 127 more than it is charged: with weights far above sixteenths of a ply that may be too low.
 #[derive(Drop)]
 pub struct Tolls {
-    tariff: Tariff,
+    pub(crate) tariff: Tariff,
     code: u8,
-    diagram: Diagram,
-    white: Half,
-    black: Half,
+    pub(crate) diagram: Diagram,
+    pub(crate) white: Half,
+    pub(crate) black: Half,
+    pub(crate) white_memory: RefCell<Memory>,
+    pub(crate) black_memory: RefCell<Memory>,
     ghost sound: { ∥ AreSound (stated tariff) diagram white black ∥₁ },
+    pub(crate) ghost white_tight: { ∥ MayBeTight (stated tariff) diagram white ∥₁ },
+    pub(crate) ghost black_tight: { ∥ MayBeTight (stated tariff) diagram black ∥₁ },
 }
 
 impl Tolls {
@@ -74,12 +82,16 @@ impl Tolls {
             &goal,
             &ground_of(&facts, Color::Black, &table),
         )?;
+        let white_memory = RefCell::new(Memory::new(alloc, tariff, diagram, &white)?);
+        let black_memory = RefCell::new(Memory::new(alloc, tariff, diagram, &black)?);
         Ok(Tolls {
             tariff: *tariff,
             code,
             diagram: *diagram,
             white,
             black,
+            white_memory,
+            black_memory,
         })
     }
 
@@ -105,8 +117,20 @@ impl Tolls {
             return None;
         }
         Some(Leasts {
-            white: cheapest(&self.white, &self.diagram, position),
-            black: cheapest(&self.black, &self.diagram, position),
+            white: cheapest(
+                &self.white_memory,
+                &self.tariff,
+                &self.diagram,
+                &self.white,
+                position,
+            ),
+            black: cheapest(
+                &self.black_memory,
+                &self.tariff,
+                &self.diagram,
+                &self.black,
+                position,
+            ),
         })
     }
 
@@ -142,7 +166,6 @@ impl Bound for Tolls {
             && halves_test self.now.white self.now.black self.now.diagram position.now left) }
         ensures told { IsTrue result → TollsHold (stated self.now.tariff) diagram.now position.now left }
     {
-        *diagram == self.diagram
-            && excludes_by(&self.white, &self.black, &self.diagram, position, left)
+        *diagram == self.diagram && is_excluded(self, position, left)
     }
 }

@@ -49,6 +49,11 @@ AreAtMost row bound n = (e : ℕ) → e < n → nth row e ≤ nth bound e
 abbrev pub IsLeast : List (List ℕ) → ℕ → List ℕ → Type 0
 IsLeast rows squares least = (q e : ℕ) → q < 64 → e < 16 → has squares q ≡ true → nth least e ≤ cell rows q e
 
+-- and no less than what all of them are no less than
+abbrev pub IsNoLess : List (List ℕ) → ℕ → List ℕ → Type 0
+IsNoLess rows squares least =
+    (m e : ℕ) → e < 16 → m ≤ 65535 → ((q : ℕ) → q < 64 → has squares q ≡ true → m ≤ cell rows q e) → m ≤ nth least e
+
 -- the rows of a kind in a table, with j marks left
 abbrev pub AreRowsOf : List (List ℕ) → ℕ → Kind → List (List ℕ) → ℕ → Type 0
 AreRowsOf table j k rows n = (s : ℕ) → s < n → get_or rows s [] ≡ get_or table ((j * 6 + number_of_kind k) * 64 + s) []
@@ -134,6 +139,10 @@ pub record IsLayer (t : Tariff) (f : Facts) (c : Color) (goals : Men) (table : L
   pub ends : AreGoals goals table j goals.count
   pub steps : AreStepsClosed t f c table j
   pub falls : goals.count < 16 → AreAllFalls t f c table j
+
+-- and so with up to n marks
+abbrev pub AreLayers : Tariff → Facts → Color → Men → ℕ → List (List ℕ) → Type 0
+AreLayers t f c goals n table = (j : ℕ) → j ≤ n → IsLayer t f c goals table j
 
 -- ---- the empty table
 -- no toll of c on the first n squares is above 127

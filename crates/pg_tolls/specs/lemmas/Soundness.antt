@@ -41,13 +41,13 @@ use Rattle.pg_tolls.specs.lemmas.TariffLemmas.{tolls_barren}
 use Rattle.pg_tolls.specs.declared.half.Half.{Half}
 
 -- ---- facts that tell the same walls
-same_still : (f e : Facts) (d : Placement) → AreOfWalls f d → AreOfWalls e d → (s : ℕ) → s < 64 → f.still s ≡ false → e.still s ≡ false
+pub same_still : (f e : Facts) (d : Placement) → AreOfWalls f d → AreOfWalls e d → (s : ℕ) → s < 64 → f.still s ≡ false → e.still s ≡ false
 same_still f e d one two s low still = false_from_ne_true (e.still s) (λ t. (let z : true ≡ false = sym ((one.walls s low).1 ((two.walls s low).0 t)) ∙ still in cc))
 
-same_lands : (f e : Facts) (d : Placement) → AreOfWalls f d → AreOfWalls e d → (c : Color) (s : ℕ) → s < 64 → f.lands c s ≡ true → e.lands c s ≡ true
+pub same_lands : (f e : Facts) (d : Placement) → AreOfWalls f d → AreOfWalls e d → (c : Color) (s : ℕ) → s < 64 → f.lands c s ≡ true → e.lands c s ≡ true
 same_lands f e d one two c s low lands = (two.landing c s low).1 ((one.landing c s low).0 lands)
 
-same_leg : (f e : Facts) (d : Placement) → AreOfWalls f d → AreOfWalls e d → (c : Color) (l : Leg) → IsLeg f c l → IsLeg e c l
+pub same_leg : (f e : Facts) (d : Placement) → AreOfWalls f d → AreOfWalls e d → (c : Color) (l : Leg) → IsLeg f c l → IsLeg e c l
 same_leg f e d one two c l leg =
     record {
       free = leg.free;
@@ -186,7 +186,7 @@ test_tolls t d e p k x y sound h =
     subst (λ (b : Placement). TollsHold t b p k) (sym ((placement_eq_decides e d).0 both.0)) (tolls_of_halves t d p k x y sound ((halves_tells x y d p k).0 both.1))
 
 -- ---- what a plan is charged at least
-no_proof : IsProp ⊥
+pub no_proof : IsProp ⊥
 no_proof a b = absurd a
 
 module _ (t : Tariff) (f : Facts) (d : Placement) (p : State) (x : Half) (c : Color) (is : x.color ≡ c) (range : IsInRange t) (walls : AreOfWalls f d) (half : IsHalf t f d x) (asks : AsksForPlans d p) where

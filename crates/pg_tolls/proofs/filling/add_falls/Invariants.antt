@@ -1,6 +1,18 @@
+use Rattle.std.proofs.Common.{◌≡◌, ◌<◌, ◌≤◌, ◌+◌, ℕ, true}
 use Rattle.pg_board.specs.Bits.{has}
+use Rattle.pg_board.specs.Men.{other}
 use Rattle.pg_board.specs.Tally.{count_below}
+use Rattle.pg_journeys.specs.Known.{known}
+use Rattle.pg_tolls.specs.Stated.{stated}
+use Rattle.pg_tolls.specs.inner.Tables.{raised}
+use Rattle.pg_tolls.proofs.FillingLemmas.{IsLowering}
 use Rattle.pg_tolls.proofs.filling.add_falls.Given as goal
+
+abbrev pub invariant-loop-square : goal.invariant-loop-square
+invariant-loop-square l =
+    IsLowering (λ s. (known l.ground.facts).lands (other l.ground.color) s ≡ true)
+    (λ b. (s : ℕ) → s < 64 → (known l.ground.facts).lands (other l.ground.color) s ≡ true → b s 15 + raised (stated l.tariff) (other l.ground.color) s ≤ 255)
+    l.left l.initial.rows l.rows
 
 abbrev pub decreases-loop-square : goal.decreases-loop-square
 decreases-loop-square l = count_below (has l.left) 64

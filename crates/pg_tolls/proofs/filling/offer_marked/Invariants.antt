@@ -1,6 +1,12 @@
 use Rattle.pg_board.specs.Bits.{has}
 use Rattle.pg_board.specs.Tally.{count_below}
+use Rattle.pg_journeys.specs.Known.{known}
+use Rattle.pg_tolls.specs.Stated.{stated}
+use Rattle.pg_tolls.specs.inner.Highest.{KeepsTakes}
 use Rattle.pg_tolls.proofs.filling.offer_marked.Given as goal
+
+abbrev pub invariant-loop-square : goal.invariant-loop-square
+invariant-loop-square l = KeepsTakes (stated l.tariff) (known l.ground.facts) l.ground.color l.kind l.before l.initial.rows l.rows
 
 abbrev pub decreases-loop-square : goal.decreases-loop-square
 decreases-loop-square l = count_below (has l.left) 64

@@ -1,6 +1,17 @@
+use Rattle.std.proofs.Common.{◌≡◌, ◌<◌, ◌≤◌, ℕ}
 use Rattle.pg_board.specs.Bits.{has}
+use Rattle.pg_board.specs.Squares.{rank}
 use Rattle.pg_board.specs.Tally.{count_below}
+use Rattle.pg_position.specs.Squares.{last_rank}
+use Rattle.pg_tolls.specs.inner.Highest.{AreBelow}
+use Rattle.pg_tolls.proofs.FillingLemmas.{IsLowering}
 use Rattle.pg_tolls.proofs.filling.promote.Given as goal
+
+abbrev pub invariant-loop-square : goal.invariant-loop-square
+invariant-loop-square l =
+    IsLowering (λ q. rank q ≡ last_rank l.fn.color)
+    (λ b. (a : ℕ → ℕ → ℕ) × ((q e : ℕ) → q < 64 → e < 16 → rank q ≡ last_rank l.fn.color → b q e ≤ a q e) × AreBelow a l.piece)
+    l.left l.initial.pawns l.pawns
 
 abbrev pub decreases-loop-square : goal.decreases-loop-square
 decreases-loop-square l = count_below (has l.left) 64

@@ -1,6 +1,11 @@
 use Rattle.pg_board.specs.Bits.{has}
 use Rattle.pg_board.specs.Tally.{count_below}
+use Rattle.pg_journeys.specs.Known.{known}
+use Rattle.pg_tolls.specs.inner.Highest.{KeepsSteps}
 use Rattle.pg_tolls.proofs.filling.spread_once.Given as goal
+
+abbrev pub invariant-loop-square : goal.invariant-loop-square
+invariant-loop-square l = KeepsSteps (known l.ground.facts) l.ground.color l.kind l.weight l.initial.rows l.rows
 
 abbrev pub decreases-loop-square : goal.decreases-loop-square
 decreases-loop-square l = count_below (has l.left) 64

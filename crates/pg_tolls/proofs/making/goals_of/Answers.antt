@@ -7,3 +7,6 @@ men_without-requires c = few_left c.args.color c.args.goal.now c.args.goal.now c
 
 pub returns-clause-all : goal.returns-clause-all
 returns-clause-all c = λ few. all_listed c.args.color c.args.goal.now c.empty.result c.men_without.result c.empty.ensures.value c.men_without.ensures.all
+
+pub returns-clause-standing : goal.returns-clause-standing
+returns-clause-standing c = (all_listed c.args.color c.args.goal.now c.empty.result c.men_without.result c.empty.ensures.value c.men_without.ensures.all).kinds

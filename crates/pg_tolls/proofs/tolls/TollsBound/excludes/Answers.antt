@@ -6,7 +6,7 @@ use Rattle.pg_tolls.proofs.tolls.TollsBound.excludes.Goals as goal
 
 pub returns-then-eq-clause-fixed : goal.returns-then-eq-clause-fixed
 returns-then-eq-clause-fixed c =
-    halves_is c.args.self.now.white c.args.self.now.black c.args.self.now.diagram c.args.position.now c.args.left c.excludes_by.result c.excludes_by.ensures
+    halves_is c.args.self.now.white c.args.self.now.black c.args.self.now.diagram c.args.position.now c.args.left c.is_excluded.result c.is_excluded.ensures
     ∙ ap (λ (b : Bool). b && halves_test c.args.self.now.white c.args.self.now.black c.args.self.now.diagram c.args.position.now c.args.left) (sym (sym c.eq.ensures.value ∙ c.if-eq.true))
 
 pub returns-then-eq-clause-told : goal.returns-then-eq-clause-told
