@@ -41,22 +41,24 @@ grown_above before behind number charge w low le =
 
 -- and the number behind it may be grown by a part of the charge
 pub within_grown : (before behind first rest : ℕ) → IsWithin before behind (rest + first) → before ≤ 65535 → IsWithin before (grown_by behind first) rest
-within_grown before behind first rest w low =
-    (let a : before ≤ behind + (rest + first) = w.0 in
-    elim (cases_Bool (ltb behind 65535)) [
-      | inl t ↦ (let l : behind < 65535 = ltb-true behind 65535 t in let b : before < 65535 = w.1 l in omega arith)
-      | inr f ↦ (let g : 65535 ≤ behind = ltb-false behind 65535 f in omega arith)
-    ], λ l. w.1 (omega arith))
+within_grown before behind first rest w low = (
+  let a : before ≤ behind + (rest + first) = w.0 in
+      elim (cases_Bool (ltb behind 65535)) [
+        | inl t ↦ (let l : behind < 65535 = ltb-true behind 65535 t in let b : before < 65535 = w.1 l in omega arith)
+        | inr f ↦ (let g : 65535 ≤ behind = ltb-false behind 65535 f in omega arith)
+      ],
+  λ l. w.1 (omega arith),
+)
 
 pub grown_more : (behind number charge : ℕ) → behind ≤ number → grown_by behind charge ≤ grown_by number charge
 grown_more behind number charge le =
     elim (cases_Bool (ltb number 65535)) [
       | inl t ↦ (let l : number < 65535 = ltb-true number 65535 t in omega arith)
       | inr f ↦ (let g : 65535 ≤ number = ltb-false number 65535 f in
-        elim (cases_Bool (ltb behind 65535)) [
-          | inl u ↦ (let m : behind < 65535 = ltb-true behind 65535 u in omega arith)
-          | inr v ↦ (let m : 65535 ≤ behind = ltb-false behind 65535 v in omega arith)
-        ])
+          elim (cases_Bool (ltb behind 65535)) [
+            | inl u ↦ (let m : behind < 65535 = ltb-true behind 65535 u in omega arith)
+            | inr v ↦ (let m : 65535 ≤ behind = ltb-false behind 65535 v in omega arith)
+          ])
     ]
 
 pub lesser_above : (m : ℕ) (first second lesser : List ℕ) (e : ℕ) → e < 16 → AreLesser first second lesser 16 → m ≤ nth first e → m ≤ nth second e → m ≤ nth lesser e

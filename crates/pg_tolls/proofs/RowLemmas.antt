@@ -31,16 +31,16 @@ pub least_next : (rows : List (List ℕ)) (squares left rest square place : ℕ)
 least_next rows squares left rest square place least lower at is without lesser_there h =
     let lesser : AreLesser least (get_or rows square []) lower 16 = subst (λ (i : ℕ). AreLesser least (get_or rows i []) lower 16) at lesser_there in
     record {
-  part = all_left (λ q. has squares q ≡ true) left rest square h.part without;
-  low = λ q lq on off e le. elim (eqb_tells q square) [
-    | inl w ↦
-        (let a : nth lower e ≡ min (nth least e) (cell rows square e) = lesser e le in
-        subst (λ (x : ℕ). nth lower e ≤ cell rows x e) (sym w.1) (omega arith))
-    | inr w ↦
-        (let a : nth lower e ≡ min (nth least e) (cell rows square e) = lesser e le in
-        omega (arith, h.low q lq on (sym (other_than left rest square q without lq w.1) ∙ off) e le))
-  ];
-  high = λ m e le low all.
-      (let a : nth lower e ≡ min (nth least e) (cell rows square e) = lesser e le in
-      omega (arith, h.high m e le low all, all square is.on_board (h.part square is.on_board is.member)));
-}
+      part = all_left (λ q. has squares q ≡ true) left rest square h.part without;
+      low = λ q lq on off e le. elim (eqb_tells q square) [
+        | inl w ↦
+            (let a : nth lower e ≡ min (nth least e) (cell rows square e) = lesser e le in
+            subst (λ (x : ℕ). nth lower e ≤ cell rows x e) (sym w.1) (omega arith))
+        | inr w ↦
+            (let a : nth lower e ≡ min (nth least e) (cell rows square e) = lesser e le in
+            omega (arith, h.low q lq on (sym (other_than left rest square q without lq w.1) ∙ off) e le))
+      ];
+      high = λ m e le low all.
+          (let a : nth lower e ≡ min (nth least e) (cell rows square e) = lesser e le in
+          omega (arith, h.high m e le low all, all square is.on_board (h.part square is.on_board is.member)));
+    }

@@ -49,7 +49,13 @@ fn is_paid_for(bound: &Tolls, position: &Position, left: u8) -> bool
     let (diagram, white, black) = (&bound.diagram, &bound.white, &bound.black);
     match value_by(&bound.white_memory, &bound.tariff, diagram, white, position) {
         None => false,
-        Some(first) => match value_by(&bound.black_memory, &bound.tariff, diagram, black, position) {
+        Some(first) => match value_by(
+            &bound.black_memory,
+            &bound.tariff,
+            diagram,
+            black,
+            position,
+        ) {
             None => false,
             Some(second) => {
                 let limit = u64::from(share(white, diagram, position, left))

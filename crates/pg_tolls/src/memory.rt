@@ -112,7 +112,9 @@ fn are_alike(color: Color, one: &Case, another: &Case) -> bool
 // The place where a case is remembered, and no other is looked for.
 fn place_of(color: Color, case: &Case) -> usize {
     let own = case.board.board().squares_of_color(color).bits();
-    let rest = u64::from(case.marks) * 4 + u64::from(case.king_side) * 2 + u64::from(case.queen_side);
+    let rest = u64::from(case.marks) * 4
+        + u64::from(case.king_side) * 2
+        + u64::from(case.queen_side);
     let number = own.wrapping_mul(0xff51_afd7_ed55_8ccd) ^ rest.wrapping_mul(0x9e37_79b9_7f4a_7c15);
     (number >> 50) as usize % MOST_CASES
 }
@@ -125,7 +127,12 @@ fn tells(kept: &Remembered, color: Color, case: &Case) -> bool
 }
 
 // What is remembered at the place of a case that is the same.
-fn recall<'a>(told: &'a [Remembered], place: usize, color: Color, case: &Case) -> Option<&'a Remembered>
+fn recall<'a>(
+    told: &'a [Remembered],
+    place: usize,
+    color: Color,
+    case: &Case,
+) -> Option<&'a Remembered>
     ensures { (t : AnyTariff) (d : Placement) (goals : AnyMen) → All (IsRemembered t d color goals) told.now →
         IfSome result (λ kept. Tells t d color goals case.now kept.now.value) }
 {

@@ -116,21 +116,10 @@ impl Tolls {
         if !has_few(position) {
             return None;
         }
+        let (tariff, diagram) = (&self.tariff, &self.diagram);
         Some(Leasts {
-            white: cheapest(
-                &self.white_memory,
-                &self.tariff,
-                &self.diagram,
-                &self.white,
-                position,
-            ),
-            black: cheapest(
-                &self.black_memory,
-                &self.tariff,
-                &self.diagram,
-                &self.black,
-                position,
-            ),
+            white: cheapest(&self.white_memory, tariff, diagram, &self.white, position),
+            black: cheapest(&self.black_memory, tariff, diagram, &self.black, position),
         })
     }
 
