@@ -1,17 +1,21 @@
 -- The row of a man: from the table's, and what it costs him to be captured.
-use Rattle.std.proofs.Common.{◌≡◌, ℕ, ◌<◌, ◌≤◌, inl, inr, Bool, true, false, cond, ltb, List, get_or, refl, sym, ap, ◌∙◌}
-use Rattle.std.proofs.lemmas.Bool.{cases_Bool, ltb-true, ltb-false}
+use Rattle.std.proofs.Common.{◌≡◌, ℕ, ◌<◌, ◌≤◌, Option, Some, None, Bool, true, false, cond, ltb, nat_eq, min, List, [], get_or, refl, sym, ap, subst, arith, ◌∙◌}
+use Rattle.std.proofs.lemmas.Bool.{lt-ltb, le-ltb}
+use Rattle.pg_board.specs.declared.man.Color.{Color}
 use Rattle.pg_board.specs.declared.man.Kind.{Kind}
 use Rattle.pg_board.specs.declared.man.Kind.TheVariants.{King}
 use Rattle.pg_board.specs.Men.{kind_eq}
+use Rattle.pg_position.specs.declared.rights.Wing.{Wing}
 use Rattle.pg_position.specs.declared.state.State.{State}
+use Rattle.pg_position.specs.Squares.{king_home, rook_home, king_target, king_crossed}
 use Rattle.pg_travel.specs.Origins.{counted}
 use Rattle.pg_journeys.specs.inner.Sides.{kind_at, square_at}
 use Rattle.pg_tolls.specs.inner.Tables.{entry}
-use Rattle.pg_tolls.specs.inner.Values.{kind_of, kind_on, by_passing}
-use Rattle.pg_tolls.specs.inner.Bills.{IsPartyOf, cost_of_man}
+use Rattle.pg_tolls.specs.inner.Values.{kind_of, kind_on, by_passing, least_of}
+use Rattle.pg_tolls.specs.inner.Bills.{IsReduced, AreColumnsOf, IsPartyOf, HasLine, cost_of_man}
 use Rattle.pg_tolls.specs.declared.half.Half.{Half}
-use Rattle.pg_tolls.specs.declared.values.Party.{Party}
+use Rattle.pg_tolls.specs.declared.bills.Party.{Party}
+use Rattle.pg_tolls.specs.declared.bills.Bill.{Bill}
 
 taken : {A : Type 0} (b : Bool) (x y : A) → b ≡ true → cond b x y ≡ x
 taken b x y e = rw e refl
@@ -19,29 +23,64 @@ taken b x y e = rw e refl
 passed_by : {A : Type 0} (b : Bool) (x y : A) → b ≡ false → cond b x y ≡ y
 passed_by b x y e = rw e refl
 
-module _ (x : Half) (p : State) (m : Party) (is : IsPartyOf x p m) (i : ℕ) (low : i < m.men.count) where
-  kind_is : kind_on p.board (square_at m.men i) ≡ kind_at m.men i
-  kind_is = ap kind_of (is.all.kinds i low)
-
+module _ (x : Half) (p : State) (m : Party) (way : Option Wing) (is : IsPartyOf x p m) (i : ℕ) where
   -- what the table says of him at an end
   abbrev charged : ℕ → ℕ
-  charged e = entry x.rows.items m.marks (kind_at m.men i) (counted x.color m.way (square_at m.men i)) e
+  charged e = entry x.rows.items m.marks (kind_at m.men i) (counted x.color way (square_at m.men i)) e
 
   abbrev fallen : ℕ
   fallen = cond (kind_eq (kind_at m.men i) King) 65535 (by_passing x p.side m.marks (square_at m.men i) (charged 15) p.passed)
 
-  same_cost : (e : ℕ) → cost_of_man x p m i e ≡ cond (ltb e x.goals.count) (charged e) fallen
-  same_cost e =
+  same_cost : (e : ℕ) → i < m.men.count → cost_of_man x p m way i e ≡ cond (ltb e x.goals.count) (charged e) fallen
+  same_cost e low =
       ap (λ (k : Kind). cond (ltb e x.goals.count)
-      (entry x.rows.items m.marks k (counted x.color m.way (square_at m.men i)) e)
-      (cond (kind_eq k King) 65535 (by_passing x p.side m.marks (square_at m.men i) (entry x.rows.items m.marks k (counted x.color m.way (square_at m.men i)) 15) p.passed)))
-      kind_is
+      (entry x.rows.items m.marks k (counted x.color way (square_at m.men i)) e)
+      (cond (kind_eq k King) 65535 (by_passing x p.side m.marks (square_at m.men i) (entry x.rows.items m.marks k (counted x.color way (square_at m.men i)) 15) p.passed)))
+      (ap kind_of (is.all.kinds i low))
 
-  -- a row that has the table's numbers for the men of the diagram, and this number behind them
-  pub row_is : (row all : List ℕ) (fall e : ℕ) → ((e : ℕ) → get_or row e 0 ≡ charged e) → fall ≡ fallen →
-      (e < x.goals.count → get_or all e 0 ≡ get_or row e 0) → (x.goals.count ≤ e → get_or all e 0 ≡ fall) → get_or all e 0 ≡ cost_of_man x p m i e
-  row_is row all fall e table falls before behind =
-      elim (cases_Bool (ltb e x.goals.count)) [
-        | inl t ↦ before (ltb-true e x.goals.count t) ∙ table e ∙ sym (taken (ltb e x.goals.count) (charged e) fallen t) ∙ sym (same_cost e)
-        | inr f ↦ behind (ltb-false e x.goals.count f) ∙ falls ∙ sym (passed_by (ltb e x.goals.count) (charged e) fallen f) ∙ sym (same_cost e)
-      ]
+  -- what it costs him to be captured, by a row that has the table's numbers
+  fall_is : (n fall : ℕ) → n ≡ charged 15 → n ≤ 65535 →
+      fall ≡ cond (kind_eq (kind_at m.men i) King) 65535 (cond (nat_eq (square_at m.men i) m.passing.square) (min n m.passing.cost) n) → fall ≡ fallen
+  fall_is n fall e low is_fall =
+      is_fall
+      ∙ ap (cond (kind_eq (kind_at m.men i) King) 65535)
+      (sym (is.passing (square_at m.men i) n low) ∙ ap (λ (k : ℕ). by_passing x p.side m.marks (square_at m.men i) k p.passed) e)
+
+  -- a row that has the table's numbers for the men of the diagram, what it costs to be captured behind them, and none past the men
+  module _ (row all : List ℕ) (fall : ℕ) (table : (e : ℕ) → get_or row e 0 ≡ charged e) (low : get_or row 15 0 ≤ 65535)
+      (falls : fall ≡ cond (kind_eq (kind_at m.men i) King) 65535 (cond (nat_eq (square_at m.men i) m.passing.square) (min (get_or row 15 0) m.passing.cost) (get_or row 15 0)))
+      (made : (g n : ℕ) → AreColumnsOf m.columns g n → (e : ℕ) → e < 16 → get_or all e 0 ≡ cond (ltb e n) (cond (ltb e g) (get_or row e 0) fall) 65535) where
+    pub row_is : (e : ℕ) → i < m.men.count → e < m.men.count → m.men.count ≤ 16 → get_or all e 0 ≡ cost_of_man x p m way i e
+    row_is e man column few =
+        made x.goals.count m.men.count is.columns e (omega arith)
+        ∙ taken (ltb e m.men.count) _ _ (lt-ltb e m.men.count column)
+        ∙ ap (λ (n : ℕ). cond (ltb e x.goals.count) n fall) (table e)
+        ∙ ap (cond (ltb e x.goals.count) (charged e)) (fall_is (get_or row 15 0) fall (table 15) low falls)
+        ∙ sym (same_cost e man)
+
+    pub row_past : (e : ℕ) → m.men.count ≤ e → e < 16 → get_or all e 0 ≡ 65535
+    row_past e column few = made x.goals.count m.men.count is.columns e few ∙ passed_by (ltb e m.men.count) _ _ (le-ltb e m.men.count column)
+
+-- ---- a man whom a castling does not move
+module _ (x : Half) (p : State) (m : Party) (w : Wing) (b : Bill) (i : ℕ) where
+  stays : (c : Color) (s : ℕ) → nat_eq s (king_home c) ≡ false → nat_eq s (rook_home c w) ≡ false → counted c None s ≡ counted c (Some w) s
+  stays c s king rook =
+      sym (passed_by (nat_eq s (king_home c)) (king_target c w) (cond (nat_eq s (rook_home c w)) (king_crossed c w) s) king
+      ∙ passed_by (nat_eq s (rook_home c w)) (king_crossed c w) s rook)
+
+  -- what he costs from a square
+  abbrev from : ℕ → ℕ → ℕ
+  from t e =
+      cond (ltb e x.goals.count)
+      (entry x.rows.items m.marks (kind_on p.board (square_at m.men i)) t e)
+      (cond (kind_eq (kind_on p.board (square_at m.men i)) King) 65535
+      (by_passing x p.side m.marks (square_at m.men i) (entry x.rows.items m.marks (kind_on p.board (square_at m.men i)) t 15) p.passed))
+
+  pub same_line : nat_eq (square_at m.men i) (king_home x.color) ≡ false → nat_eq (square_at m.men i) (rook_home x.color w) ≡ false →
+      HasLine x p m None b i → HasLine x p m (Some w) b i
+  same_line king rook h =
+      let same : counted x.color None (square_at m.men i) ≡ counted x.color (Some w) (square_at m.men i) = stays x.color (square_at m.men i) king rook in
+      record {
+        least = h.least ∙ ap (λ (t : ℕ). least_of (from t) m.men.count) same;
+        costs = λ e l. subst (λ (t : ℕ). IsReduced (from t e) (least_of (from t) m.men.count) (get_or (get_or b.rows i []) e 0)) same (h.costs e l);
+      }

@@ -1,11 +1,12 @@
 -- Least numbers: of a row, of numbers raised alike, of some kinds of numbers.
-use Rattle.std.proofs.Common.{◌≡◌, ◌≢◌, ℕ, zero, suc, ◌+◌, ◌<◌, ◌≤◌, ◌⊎◌, inl, inr, Option, Some, None, min, refl, ap, subst, arith}
+use Rattle.std.proofs.Common.{◌≡◌, ◌≢◌, ℕ, zero, suc, ◌+◌, ◌<◌, ◌≤◌, ◌⊎◌, inl, inr, Option, Some, None, min, refl, sym, ap, subst, arith, ◌∙◌}
 use Rattle.std.proofs.lemmas.Bool.Decides.{eqb_tells, leb_tells}
 use Rattle.pg_position.specs.declared.rights.Wing.{Wing}
 use Rattle.pg_position.specs.declared.rights.Wing.TheVariants.{KingSide, QueenSide}
 use Rattle.pg_assignments.specs.Assignments.{IsLeast}
 use Rattle.pg_assignments.specs.Search.{lesser_of}
 use Rattle.pg_tolls.specs.inner.Values.{least_of}
+use Rattle.pg_tolls.specs.inner.Bills.{IsAtMost, IsLeastBeside}
 
 -- ---- the least of a row
 pub least_low : (f : ℕ → ℕ) (n e : ℕ) → e < n → least_of f n ≤ f e
@@ -26,6 +27,19 @@ least_same f g (suc n) same = both (least_of f n) (least_of g n) (f n) (g n) (le
 pub least_top : (f : ℕ → ℕ) (n : ℕ) → least_of f n ≤ 65535
 least_top f zero = omega arith
 least_top f (suc n) = omega (arith, least_top f n)
+
+-- where the rest of it is none
+pub least_past : (f : ℕ → ℕ) (n m : ℕ) → n ≤ m → ((e : ℕ) → n ≤ e → e < m → f e ≡ 65535) → least_of f m ≡ least_of f n
+least_past f n zero le none = ap (least_of f) (let e : zero ≡ n = omega arith in e)
+least_past f n (suc m) le none =
+    elim (eqb_tells n (suc m)) [
+      | inl w ↦ ap (least_of f) (sym w.1)
+      | inr w ↦
+          (let ne : n ≢ suc m = w.1 in
+          let before : least_of f m ≡ least_of f n = least_past f n m (omega arith) (λ e a b. none e a (omega arith)) in
+          let last : f m ≡ 65535 = none m (omega arith) (omega arith) in
+          omega (arith, least_top f n))
+    ]
 
 -- ---- the least number of which something holds
 -- raised by the same number
@@ -48,6 +62,15 @@ pub least_none : (S : ℕ → Type 0) → ((v : ℕ) → S v → ⊥) → IsLeas
 unfolding IsLeast
 least_none S none = none
 
+-- what was found before
+found_least : (a : Option ℕ) → IsLeast (λ v. a ≡ Some v) a
+unfolding IsLeast
+found_least None = λ v e. cc
+found_least (Some x) = (refl, λ v e. (let h : x ≡ v = some_inj e in omega arith))
+  where
+    some_inj : {a b : ℕ} → Some a ≡ Some b → a ≡ b
+    some_inj e = cc
+
 -- of either of two kinds
 lesser_least : (P Q : ℕ → Type 0) (a b : Option ℕ) → IsLeast P a → IsLeast Q b → IsLeast (λ v. P v ⊎ Q v) (lesser_of a b)
 unfolding IsLeast lesser_of
@@ -62,24 +85,67 @@ lesser_least P Q (Some x) (Some y) f g = (which, λ m h. elim h [ inl z ↦ (let
       | inr w ↦ (let e : y ≡ min x y = (let l : y < x = w.1 in omega arith) in inr (subst Q e g.0))
     ]
 
+lesser_none : (a : Option ℕ) → lesser_of a None ≡ a
+unfolding lesser_of
+lesser_none None = refl
+lesser_none (Some x) = refl
+
+module _ (T : ℕ → Type 0) (found : Option ℕ) where
+  pub beside_lesser : (o r : Option ℕ) → r ≡ lesser_of found o → IsLeast T o → IsLeastBeside T found r
+  beside_lesser o r e h =
+      subst (λ (u : Option ℕ). IsLeastBeside T found u) (sym e) (lesser_least (λ v. found ≡ Some v) T found o (found_least found) h)
+
+  -- of nothing more
+  pub beside_none : IsLeast T None → IsLeastBeside T found found
+  beside_none h = beside_lesser None found (sym (lesser_none found)) h
+
+  -- of nothing less
+  pub beside_reached : (n : ℕ) → IsAtMost found n → ((v : ℕ) → T v → n ≤ v) → IsLeastBeside T found found
+  unfolding IsLeast
+  beside_reached n is low =
+      subst (λ (u : Option ℕ). IsLeastBeside T found u) (sym is.1) (
+        inl is.1,
+        λ v h. elim h [
+          | inl e ↦ (let same : is.0 ≡ v = (let both : Some is.0 ≡ Some v = sym is.1 ∙ e in cc) in omega arith)
+          | inr t ↦ (let a : n ≤ v = low v t in let b : is.0 ≤ n = is.2 in omega arith)
+        ],
+      )
+
+-- beside a number that was the least of its kind
+with_beside : (P T : ℕ → Type 0) (a r : Option ℕ) → IsLeast P a → IsLeastBeside T a r → IsLeast (λ v. P v ⊎ T v) r
+unfolding IsLeast
+with_beside P T None None f g = λ v h. elim h [ inl x ↦ f v x | inr t ↦ g v (inr t) ]
+with_beside P T None (Some y) f g = (
+  elim g.0 [ inl e ↦ absurd cc | inr t ↦ inr t ],
+  λ v h. elim h [ inl x ↦ absurd (f v x) | inr t ↦ g.1 v (inr t) ],
+)
+with_beside P T (Some x) None f g = absurd (g x (inl refl))
+with_beside P T (Some x) (Some y) f g = (
+  elim g.0 [ inl e ↦ inl (subst P (let h : x ≡ y = cc in h) f.0) | inr t ↦ inr t ],
+  λ v h. elim h [ inl z ↦ (let a : x ≤ v = f.1 v z in let b : y ≤ x = g.1 x (inl refl) in omega arith) | inr t ↦ g.1 v (inr t) ],
+)
+
 -- of the kinds of all ways
 module _ (P : Option Wing → ℕ → Type 0) where
   abbrev Any3 : ℕ → Type 0
-  Any3 v = P None v ⊎ (P (Some KingSide) v ⊎ P (Some QueenSide) v)
+  Any3 v = (P None v ⊎ P (Some KingSide) v) ⊎ P (Some QueenSide) v
 
   out : (v : ℕ) → Any3 v → (way : Option Wing) × P way v
-  out v (inl h) = (None, h)
-  out v (inr (inl h)) = (Some KingSide, h)
-  out v (inr (inr h)) = (Some QueenSide, h)
+  out v (inl (inl h)) = (None, h)
+  out v (inl (inr h)) = (Some KingSide, h)
+  out v (inr h) = (Some QueenSide, h)
 
   back : (v : ℕ) (way : Option Wing) → P way v → Any3 v
-  back v None h = inl h
-  back v (Some KingSide) h = inr (inl h)
-  back v (Some QueenSide) h = inr (inr h)
+  back v None h = inl (inl h)
+  back v (Some KingSide) h = inl (inr h)
+  back v (Some QueenSide) h = inr h
 
-  pub least_of_ways : (a k q : Option ℕ) → IsLeast (P None) a → IsLeast (P (Some KingSide)) k → IsLeast (P (Some QueenSide)) q →
-      IsLeast (λ v. (way : Option Wing) × P way v) (lesser_of a (lesser_of k q))
+  pub first_least : (a : Option ℕ) → IsLeastBeside (P None) None a → IsLeast (P None) a
+  first_least a h = least_along (λ v. (None ≡ Some v) ⊎ P None v) (P None) a (λ v x. elim x [ inl e ↦ absurd cc | inr t ↦ t ]) (λ v t. inr t) h
+
+  pub least_of_ways : (a k q : Option ℕ) → IsLeastBeside (P None) None a → IsLeastBeside (P (Some KingSide)) a k → IsLeastBeside (P (Some QueenSide)) k q →
+      IsLeast (λ v. (way : Option Wing) × P way v) q
   least_of_ways a k q ha hk hq =
-      least_along Any3 (λ v. (way : Option Wing) × P way v) (lesser_of a (lesser_of k q)) out (λ v h. back v h.0 h.1)
-      (lesser_least (P None) (λ v. P (Some KingSide) v ⊎ P (Some QueenSide) v) a (lesser_of k q) ha
-      (lesser_least (P (Some KingSide)) (P (Some QueenSide)) k q hk hq))
+      least_along Any3 (λ v. (way : Option Wing) × P way v) q out (λ v h. back v h.0 h.1)
+      (with_beside (λ v. P None v ⊎ P (Some KingSide) v) (P (Some QueenSide)) k q
+      (with_beside (P None) (P (Some KingSide)) a k (first_least a ha) hk) hq)

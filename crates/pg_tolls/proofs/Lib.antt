@@ -4,6 +4,9 @@ mod ClosingLemmas
 mod LeastLemmas
 mod Listings
 mod Parties
+mod Castlings
+mod Sparing
+mod Passings
 mod Billing
 mod Unlifted
 mod Openings

@@ -84,7 +84,7 @@ module _ (x : Half) (d : Placement) (p : State) (way : Option Wing) (xs : ℕ �
         goes_to : (i : ℕ) → i < columns → to (xs i) < columns
         goes_to i low = (let k : (k : Kind) × Stands p.board x.color k (xs i) = is.stands i low in h.inside k.0 (xs i) (is.low i low) k.1)
 
-    to_total : (v : ℕ) → IsCostBy x d p way v → (y : ℕ) × IsTotal r (Below columns) columns y × (v ≡ base + y)
+    pub to_total : (v : ℕ) → IsCostBy x d p way v → (y : ℕ) × IsTotal r (Below columns) columns y × (v ≡ base + y)
     to_total v h = (
       total (λ i. r i (h.0 (xs i))) columns,
       ((λ i. h.0 (xs i)), assigned h.0 h.1, refl),
@@ -122,7 +122,7 @@ module _ (x : Half) (d : Placement) (p : State) (way : Option Wing) (xs : ℕ �
         ∙ total_same (λ i. clipped x p way (marks_for x d p.board) columns (xs i) (to i)) (λ i. clipped x p way (marks_for x d p.board) columns (xs i) (column_on to (xs i))) columns
         (λ i low. ap (λ (t : ℕ). clipped x p way (marks_for x d p.board) columns (xs i) (to t)) (place_of p.board x.color xs columns is i low))
 
-    of_total : (y : ℕ) → IsTotal r (Below columns) columns y → IsCostBy x d p way (base + y)
+    pub of_total : (y : ℕ) → IsTotal r (Below columns) columns y → IsCostBy x d p way (base + y)
     of_total y t = (column_on t.0, spread t.0 t.1, ap (λ (n : ℕ). base + n) t.2 ∙ sym (together t.0 t.1 _ (spread_sum t.0)))
 
     -- ---- the least

@@ -1,6 +1,7 @@
 //! The bound by tolls: what a capture on a square costs the one colour, it spares the other.
 #![tactic(auto)]
 
+mod bills;
 mod closed;
 mod excluding;
 mod filling;

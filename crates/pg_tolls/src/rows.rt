@@ -29,9 +29,9 @@ pub(crate) fn lesser(first: &Row, second: &Row) -> Row
         .to_array()
 }
 
-// The greater of each two numbers.
+/// The greater of each two numbers.
 #[inline(always)]
-fn greater(first: &Row, second: &Row) -> Row
+pub(crate) fn greater(first: &Row, second: &Row) -> Row
     ensures { AreGreater first.now second.now result 16 }
 {
     u16x16::from_array(*first)

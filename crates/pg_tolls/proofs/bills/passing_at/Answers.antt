@@ -1,6 +1,6 @@
-use Rattle.std.proofs.Common.{sym, ◌∙◌, rules}
+use Rattle.std.proofs.Common.{◌∙◌, sym, rules}
 use Rattle.pg_tolls.proofs.Openings.{passed_ahead}
-use Rattle.pg_tolls.proofs.values.has_passed.Goals as goal
+use Rattle.pg_tolls.proofs.bills.passing_at.Goals as goal
 
 pub ahead-requires : goal.ahead-requires
 ahead-requires c = passed_ahead c.args.position.now c.args.half.now.color c.args.passed c.side.ensures.position c.requires (sym c.side.ensures.value ∙ (search rules))

@@ -1,6 +1,6 @@
 use Rattle.std.proofs.Common.{◌≡◌, get_or}
 use Rattle.pg_tolls.specs.inner.Values.{least_of}
-use Rattle.pg_tolls.proofs.values.least.Given as goal
+use Rattle.pg_tolls.proofs.bills.least.Given as goal
 
 abbrev pub invariant-loop-e : goal.invariant-loop-e
 invariant-loop-e l = record { is : l.least ≡ least_of (λ e. get_or l.row e 0) l.e }
