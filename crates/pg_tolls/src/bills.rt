@@ -4,12 +4,12 @@ ghost use Rattle.pg_board.specs.Men.{kind_eq};
 ghost use Rattle.pg_board.specs.declared.man.Kind.TheVariants.{King};
 ghost use Rattle.pg_position.specs.declared.state.State.{State};
 ghost use Rattle.pg_journeys.specs.inner.Sides.{kind_at, square_at};
-ghost use Rattle.pg_tolls.specs.inner.Bills.{IsReduced, AreReduced, IsPassing, AreColumnsOf, IsPartyOf};
+ghost use Rattle.pg_tolls.specs.inner.Bills.{AreReduced, IsPassing, AreColumnsOf, IsPartyOf};
 ghost use Rattle.pg_tolls.specs.inner.Bills.{cost_of_man, IsLineOf, IsBillOf, IsSparedAt, AreSpared, HasSpared};
 ghost use Rattle.pg_tolls.specs.inner.Values.{least_of};
 
 use crate::half::{Half, charges};
-use crate::rows::{Row, greater, lesser};
+use crate::rows::{Row, above, greater, lesser, narrowed, with_none};
 use pg_board::{Kind, Square};
 use pg_journeys::{Men, counted};
 use pg_position::{Position, Wing, ahead, king_home, rook_home};
@@ -173,27 +173,15 @@ fn least(row: &Row) -> u16
     least
 }
 
-// A cost beyond the least, at most 254; 255 for none.
-#[inline(always)]
-fn beyond(cost: u16, least: u16) -> u8
-    ensures { IsReduced cost least result }
-{
-    if cost == u16::MAX {
-        return 255;
-    }
-    cost.saturating_sub(least).min(254) as u8
-}
-
-// The costs of a row beyond the least.
+// The costs of a row beyond the least, at most 254; 255 for none.
 #[inline(always)]
 fn row_beyond(row: &Row, least: u16) -> [u8; 16]
     ensures { AreReduced row.now least result 16 }
 {
-    let mut costs = [255u8; 16];
-    for e in 0..16usize {
-        costs[e] = beyond(row[e], least);
-    }
-    costs
+    let above = above(row, least);
+    let costs = lesser(&above, &[254; 16]);
+    let all = with_none(&costs, row);
+    narrowed(&all)
 }
 
 // What a man of a party costs in a way.

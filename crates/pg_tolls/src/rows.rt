@@ -1,9 +1,9 @@
 //! Rows of what walks are charged, by the men of the diagram whom a man may become, and the last place for being
 //! captured; 65535 where there is no walk.
-ghost use Rattle.std.specs.Prelude.{◌≡◌, ℕ, suc, ◌*◌, ◌+◌, ◌<◌, ◌≤◌, length};
+ghost use Rattle.std.specs.Prelude.{◌≡◌, ℕ, suc, ◌*◌, ◌+◌, ◌-◌, ◌<◌, ◌≤◌, cond, ltb, length};
 ghost use Rattle.pg_tolls.specs.Stated.{stated};
 ghost use Rattle.pg_tolls.specs.inner.Tables.{raised};
-ghost use Rattle.pg_tolls.specs.inner.Closing.{AreLesser, AreGreater, AreCharged, AreGrown};
+ghost use Rattle.pg_tolls.specs.inner.Closing.{nth, AreLesser, AreGreater, AreCharged, AreGrown};
 ghost use Rattle.pg_tolls.specs.inner.Closing.{AreRowsOf, AreTaken, IsLeast, IsNoLess};
 
 use crate::tariff::Tariff;
@@ -37,6 +37,35 @@ pub(crate) fn greater(first: &Row, second: &Row) -> Row
     u16x16::from_array(*first)
         .simd_max(u16x16::from_array(*second))
         .to_array()
+}
+
+/// By how much each number is above one.
+#[inline(always)]
+pub(crate) fn above(row: &Row, least: u16) -> Row
+    ensures { (e : ℕ) → e < 16 → nth result e ≡ nth row.now e - least }
+{
+    let high = greater(row, &[least; 16]);
+    (u16x16::from_array(high) - u16x16::splat(least)).to_array()
+}
+
+/// Numbers, and 255 where a row has none.
+#[inline(always)]
+pub(crate) fn with_none(costs: &Row, row: &Row) -> Row
+    ensures { (e : ℕ) → e < 16 → nth result e ≡ cond (ltb (nth row.now e) 65535) (nth costs.now e) 255 }
+{
+    u16x16::from_array(*row)
+        .simd_lt(u16x16::splat(u16::MAX))
+        .select(u16x16::from_array(*costs), u16x16::splat(255))
+        .to_array()
+}
+
+/// Numbers below 256, as bytes.
+#[inline(always)]
+pub(crate) fn narrowed(row: &Row) -> [u8; 16]
+    requires { (e : ℕ) → e < 16 → nth row.now e < 256 }
+    ensures { (e : ℕ) → e < 16 → nth result e ≡ nth row.now e }
+{
+    u16x16::from_array(*row).cast::<u8>().to_array()
 }
 
 // Each number and a charge, 65534 at most.
