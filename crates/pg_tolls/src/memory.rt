@@ -235,7 +235,7 @@ fn room_for_cases(alloc: Global) -> Result<Vec<Remembered>, AllocError>
     Ok(room)
 }
 
-/// What the men of a colour cost by a tariff on the way to a diagram, in positions that were asked: some 50 KB, made once.
+/// What the men of a colour cost by a tariff on the way to a diagram, in positions that were asked: some 60 KB, made once.
 /// What is remembered changes no answer: it is used where the colour has the same men and rights and may have as many
 /// marks, and none of its pawns has just passed a square.
 #[derive(Drop)]

@@ -31,7 +31,7 @@ use std::cell::RefCell;
 /// more than sixteen men it looks at that alone, and of another diagram it says nothing.
 ///
 /// Any tariff is sound. What plans are charged at least is looked up in tables, some 12 KB for each colour and each
-/// number of captures that it may owe, from none. What a colour's men were charged is remembered, in some 50 KB for each
+/// number of captures that it may owe, from none. What a colour's men were charged is remembered, in some 60 KB for each
 /// colour, and looked up where they stand so again. A fate counts at most 254 above the cheapest one of its man, where to
 /// be captured counts 127 more than it is charged: with weights far above sixteenths of a ply that may be too low.
 #[derive(Drop)]
