@@ -1,4 +1,4 @@
--- The row of a man: from the table's, and what it costs him to be captured.
+-- The row of a man: from the table's, and what it costs him to be captured. A man whom a castling does not move.
 use Rattle.std.proofs.Common.{◌≡◌, ℕ, ◌<◌, ◌≤◌, Option, Some, None, Bool, true, false, cond, ltb, nat_eq, min, List, [], get_or, refl, sym, ap, subst, arith, ◌∙◌}
 use Rattle.std.proofs.lemmas.Bool.{lt-ltb, le-ltb}
 use Rattle.pg_board.specs.declared.man.Color.{Color}

@@ -1,4 +1,4 @@
--- Rows as vectors. Leads to the contracts of lesser, greater and charged.
+-- Rows as vectors. Leads to the contracts of lesser, greater, above, with_none and charged.
 use Rattle.std.proofs.Common.{◌≡◌, ℕ, ◌+◌, ◌-◌, ◌%◌, ◌^◌, ◌<◌, ◌≤◌, false, cond, ltb, List, length, replicate, min, max, refl, ap, arith, w16, ◌∙◌}
 use lib.Lanes.{zip2, sel_l, top}
 use mathlib.Core.List.{map}

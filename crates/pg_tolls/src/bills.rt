@@ -229,7 +229,7 @@ fn none(cost: u8) -> u16
     u16::from(cost.saturating_sub(254)) * u16::MAX
 }
 
-// 65535 for 65535, and else nothing.
+// The same for 65535, which tells no cost.
 #[inline(always)]
 fn untold(cost: u16) -> u16
     ensures { result ≡ cond (ltb cost 65535) 0 65535 }
