@@ -9,10 +9,8 @@ use Rattle.pg_board.specs.declared.man.Color.{Color}
 use Rattle.pg_board.specs.declared.man.Kind.{Kind}
 use Rattle.pg_board.specs.declared.man.Kind.TheVariants.{Pawn, Knight, Bishop, Rook, Queen, King}
 use Rattle.pg_board.specs.Men.{number_of_kind, kind_eq, other}
-use Rattle.pg_board.specs.Squares.{rank}
 use Rattle.pg_board.specs.SquareSets.{IsSetOf, IsFirstFrom}
 use Rattle.pg_position.specs.Geometry.{OnOneLine, InPattern}
-use Rattle.pg_position.specs.Squares.{last_rank}
 use Rattle.pg_position.specs.Step.{IsPiece}
 use Rattle.pg_position.proofs.ReachLemmas.{between_turn}
 use Rattle.pg_captures.specs.FreeSteps.{StepsTo, Becomes, FreeStep}
@@ -28,7 +26,7 @@ use Rattle.pg_tolls.specs.Tariffs.{Tariff}
 use Rattle.pg_tolls.specs.inner.Tables.{entry, raised, IsWithin}
 use Rattle.pg_tolls.specs.inner.Closing.{nth, cell, grown_by, AreGrown, AreLesser, AreTaken, IsNoLess, HasLowTolls}
 use Rattle.pg_tolls.specs.declared.filling.Layer.{Layer}
-use Rattle.pg_tolls.specs.inner.Highest.{Numbers, AreNumbers, AreBelow, AreWithinSteps, AreWithinPushes, AreWithinCaptures, IsOffer, AreLeftOver, AreClosedAt, AreClosedTo, AreHigh, KeepsSteps, KeepsTakes, KeepsPawns, KeepsPromoted, KeepsEnds, AreBlank, IsOver, IsHigh, AreLong, with_layer, AreHighest}
+use Rattle.pg_tolls.specs.inner.Highest.{Numbers, AreNumbers, AreBelow, AreWithinPushes, AreWithinCaptures, IsOffer, AreLeftOver, AreClosedAt, AreClosedTo, AreHigh, KeepsSteps, KeepsTakes, KeepsPawns, KeepsPromoted, KeepsEnds, AreBlank, IsOver, IsHigh, AreLong, with_layer, AreHighest}
 
 -- ---- one number
 -- what is within one behind is at most what is grown from a number that is no lower

@@ -1,5 +1,5 @@
 -- When cases are the same, and what a memory lends and takes back. Leads to the contracts of memory.
-use Rattle.std.proofs.Common.{◌≡◌, ℕ, ◌<◌, ◌↔◌, inl, inr, Option, Some, None, Bool, true, false, not, ◌||◌, ◌&&◌, refl, sym, ap, ap₂, subst, ◌∙◌, List, length, get_or, replicate, IsTrue}
+use Rattle.std.proofs.Common.{◌≡◌, ℕ, ◌<◌, ◌↔◌, inl, inr, Option, Bool, true, false, not, ◌||◌, ◌&&◌, refl, sym, ap, ap₂, subst, ◌∙◌, List, length, get_or, replicate, IsTrue}
 use Rattle.std.specs.Prelude.{All, Vec, ℤ}
 use Rattle.std.specs.Ordering.{int_eq}
 use lib.Pointwise.{pointwise}
@@ -15,14 +15,14 @@ use Rattle.pg_board.specs.declared.man.Color.{Color}
 use Rattle.pg_board.specs.declared.man.Color.TheVariants.{White, Black}
 use Rattle.pg_board.specs.declared.man.Kind.{Kind}
 use Rattle.pg_board.specs.declared.man.Man.{Man}
-use Rattle.pg_board.specs.Men.{other, is_of, color_eq}
+use Rattle.pg_board.specs.Men.{is_of, color_eq}
 use Rattle.pg_board.specs.Equality.{placement_eq, placement_eq_decides}
 use Rattle.pg_board.specs.Placement.{Placement, get}
 use Rattle.pg_board.specs.SquareSets.{Meet}
 use Rattle.pg_position.specs.Position.{Stands}
 use Rattle.pg_journeys.specs.declared.men.Men.{Men}
 use Rattle.pg_tolls.specs.Tariffs.{Tariff}
-use Rattle.pg_tolls.specs.inner.Remembering.{AreAlike, AreOnSame, AreSameClaims, IsCase, IsOwner, Tells, IsRemembered}
+use Rattle.pg_tolls.specs.inner.Remembering.{AreAlike, AreOnSame, AreSameClaims, IsOwner, Tells, IsRemembered}
 use Rattle.pg_tolls.specs.Stated.{stated}
 use Rattle.pg_tolls.specs.declared.half.Half.{Half}
 use Rattle.pg_tolls.specs.declared.tariff.Tariff.{Tariff as Bytes}

@@ -1,6 +1,5 @@
 -- Two halves of a colour with the same numbers cost the same in positions that are the same case. Leads to the contracts of memory.
-use Rattle.std.proofs.Common.{◌≡◌, ℕ, zero, suc, ◌+◌, ◌*◌, ◌<◌, ◌≤◌, ◌↔◌, min, inl, inr, Bool, true, false, cond, ltb, nat_eq, ◌&&◌, Option, Some, None, List, get_or, refl, sym, ap, ap₂, subst, arith, ◌∙◌}
-use Rattle.std.proofs.lemmas.Bool.{cases_Bool}
+use Rattle.std.proofs.Common.{◌≡◌, ℕ, zero, suc, ◌+◌, ◌*◌, ◌<◌, ◌≤◌, ◌↔◌, min, Bool, true, false, cond, ltb, nat_eq, ◌&&◌, Option, Some, None, List, get_or, refl, sym, ap, ap₂, subst, arith, ◌∙◌}
 use Rattle.pg_board.specs.Bits.{has}
 use Rattle.pg_board.specs.declared.man.Color.{Color}
 use Rattle.pg_board.specs.declared.man.Color.TheVariants.{White, Black}

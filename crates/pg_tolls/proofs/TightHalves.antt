@@ -1,39 +1,35 @@
 -- Halves of one tariff with the highest tables have the same numbers, so what is remembered of one is true of each. Leads to
 -- the contracts of tables, making, tolls and memory.
-use Rattle.std.proofs.Common.{◌≡◌, ◌≢◌, ℕ, suc, ◌+◌, ◌*◌, ◌-◌, ◌<◌, ◌≤◌, ◌↔◌, min, inl, inr, Bool, true, false, ltb, List, [], Option, Some, None, get_or, refl, sym, ap, subst, arith, ◌∙◌}
+use Rattle.std.proofs.Common.{◌≡◌, ◌≢◌, ℕ, ◌+◌, ◌*◌, ◌<◌, ◌≤◌, ◌↔◌, min, inl, inr, ltb, List, [], Option, Some, None, get_or, refl, sym, ap, subst, arith, ◌∙◌}
 use Rattle.std.proofs.lemmas.Bool.{cases_Bool, ltb-true, ltb-false}
 use Rattle.std.proofs.Math.Logic.{∥∥₁_elim, ∥∥₁_map}
 use Rattle.std.specs.Coded.{le_prop}
-use Rattle.pg_board.specs.Bits.{has}
 use Rattle.pg_board.specs.declared.man.Color.{Color}
 use Rattle.pg_board.specs.declared.man.Kind.{Kind}
-use Rattle.pg_board.specs.declared.man.Kind.TheVariants.{Pawn, King}
+use Rattle.pg_board.specs.declared.man.Kind.TheVariants.{Pawn}
 use Rattle.pg_board.specs.Men.{other}
 use Rattle.pg_board.specs.Placement.{Placement}
 use Rattle.pg_position.specs.declared.rights.Wing.{Wing}
 use Rattle.pg_position.specs.declared.rights.Wing.TheVariants.{KingSide, QueenSide}
 use Rattle.pg_position.specs.declared.state.State.{State}
 use Rattle.pg_position.specs.Position.{Stands, holds}
-use Rattle.pg_captures.specs.Counting.{men, any_man}
 use Rattle.pg_assignments.specs.Assignments.{IsLeast}
 use Rattle.pg_journeys.specs.Facts.{Facts}
 use Rattle.pg_journeys.specs.Rounds.{HasFew}
 use Rattle.pg_journeys.specs.lemmas.Turns.{leg}
-use Rattle.pg_journeys.specs.inner.Grounds.{Pushes, Captures}
 use Rattle.pg_journeys.specs.inner.Sides.{kind_at, square_at}
 use Rattle.pg_journeys.specs.declared.men.Men.{Men}
 use Rattle.pg_tolls.specs.Charges.{AreOfWalls}
 use Rattle.pg_tolls.specs.Tariffs.{Tariff}
 use Rattle.pg_tolls.specs.inner.Closing.{AreLayers}
 use Rattle.pg_tolls.specs.inner.Highest.{Numbers, AreClosedAt, AreClosedTo, numbers_of}
-use Rattle.pg_tolls.specs.inner.Remembering.{most_for, AreOnSame, IsTight, MayBeTight, HasNotPassed, IsCase, AreAlike, Tells, IsRemembered}
+use Rattle.pg_tolls.specs.inner.Remembering.{most_for, AreOnSame, IsTight, MayBeTight, HasNotPassed, IsCase, Tells}
 use Rattle.pg_tolls.specs.inner.Tables.{entry, raised, IsWithin}
 use Rattle.pg_tolls.specs.inner.Values.{kind_of, marks_for, IsCost}
 use Rattle.pg_tolls.specs.lemmas.DecidingCosts.{dec_cost_within}
 use Rattle.pg_tolls.specs.lemmas.Soundness.{same_still, same_leg, same_lands, no_proof}
 use Rattle.pg_tolls.specs.declared.half.Half.{Half}
 use Rattle.pg_tolls.specs.declared.memory.Case.{Case}
-use Rattle.pg_tolls.specs.declared.memory.Remembered.{Remembered}
 use Rattle.pg_tolls.proofs.ClosingLemmas.{piece_of, falls_of}
 use Rattle.pg_tolls.proofs.SameCosts.{AreSameCase, cost_there}
 

@@ -66,8 +66,8 @@ fn is_paid_for(bound: &Tolls, position: &Position, left: u8) -> bool
     }
 }
 
-// Whether the halves of a bound exclude its diagram: a wall of it has lost its pawn, or men of a colour are missing; or,
-// where no colour has more than sixteen men, both together cannot be paid for.
+// Whether the halves of a bound exclude its diagram: a wall of it has lost its pawn, or men of a colour are missing;
+// or, where no colour has more than sixteen men, both together cannot be paid for.
 pub(crate) fn is_excluded(bound: &Tolls, position: &Position, left: u8) -> bool
     ensures { IsTrue result ↔
         HalvesExclude bound.now.white bound.now.black bound.now.diagram position.now left }

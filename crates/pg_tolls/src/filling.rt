@@ -140,7 +140,8 @@ fn offer_marked(
 ) -> SquareSet
     requires sound { IsGround ground.now }
     requires piece { kind ≢ Pawn }
-    ensures { KeepsTakes (stated tariff.now) (known ground.now.facts) ground.now.color kind before.now rows.old rows.new }
+    ensures { KeepsTakes (stated tariff.now) (known ground.now.facts) ground.now.color kind
+        before.now rows.old rows.new }
 {
     let mut changed = SquareSet::empty();
     let mut left = cheap;

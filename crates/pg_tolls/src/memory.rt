@@ -10,7 +10,8 @@ ghost use Rattle.pg_journeys.specs.declared.men.Men.{Men as AnyMen};
 ghost use Rattle.pg_tolls.specs.Stated.{stated};
 ghost use Rattle.pg_tolls.specs.Tariffs.{Tariff as AnyTariff};
 ghost use Rattle.pg_tolls.specs.inner.Values.{marks_for, IsCost};
-ghost use Rattle.pg_tolls.specs.inner.Remembering.{AreAlike, AreOnSame, AreSameClaims, HasNotPassed, IsCase, IsOwner, IsRemembered, MayBeTight, MayBeTold, Tells};
+ghost use Rattle.pg_tolls.specs.inner.Remembering.{AreAlike, AreOnSame, AreSameClaims, HasNotPassed, IsCase};
+ghost use Rattle.pg_tolls.specs.inner.Remembering.{IsOwner, IsRemembered, MayBeTight, MayBeTold, Tells};
 
 use crate::half::Half;
 use crate::tariff::Tariff;
@@ -144,8 +145,9 @@ fn recall<'a>(
 
 // Remembers what a case costs at its place, if there is one, in the place of what was remembered there.
 fn remember(told: &mut [Remembered], place: usize, case: &Case, value: Option<u32>)
-    ensures { (t : AnyTariff) (d : Placement) (c : AnyColor) (goals : AnyMen) → All (IsRemembered t d c goals) told.old →
-        Tells t d c goals case.now value → All (IsRemembered t d c goals) told.new }
+    ensures { (t : AnyTariff) (d : Placement) (c : AnyColor) (goals : AnyMen) →
+        All (IsRemembered t d c goals) told.old → Tells t d c goals case.now value →
+        All (IsRemembered t d c goals) told.new }
 {
     if place < told.len() {
         told[place] = Remembered {
@@ -169,7 +171,8 @@ fn value_in(
     ensures value { (t : AnyTariff) → All (IsRemembered t diagram.now half.now.color half.now.goals) told.old →
         ∥ MayBeTight t diagram.now half.now ∥₁ → IsLeast (IsCost half.now diagram.now position.now) result }
     ensures kept { (t : AnyTariff) → All (IsRemembered t diagram.now half.now.color half.now.goals) told.old →
-        ∥ MayBeTight t diagram.now half.now ∥₁ → All (IsRemembered t diagram.now half.now.color half.now.goals) told.new }
+        ∥ MayBeTight t diagram.now half.now ∥₁ →
+        All (IsRemembered t diagram.now half.now.color half.now.goals) told.new }
 {
     let case = case_of(half.color, marks_of(half, diagram, position), position);
     let place = place_of(half.color, &case);
@@ -235,9 +238,9 @@ fn room_for_cases(alloc: Global) -> Result<Vec<Remembered>, AllocError>
     Ok(room)
 }
 
-/// What the men of a colour cost by a tariff on the way to a diagram, in positions that were asked: some 60 KB, made once.
-/// What is remembered changes no answer: it is used where the colour has the same men and rights and may have as many
-/// marks, and none of its pawns has just passed a square.
+/// What the men of a colour cost by a tariff on the way to a diagram, in positions that were asked: some 60 KB, made
+/// once. What is remembered changes no answer: it is used where the colour has the same men and rights and may have as
+/// many marks, and none of its pawns has just passed a square.
 #[derive(Drop)]
 pub(crate) struct Memory {
     owner: Owner,
@@ -258,7 +261,8 @@ impl Model for Memory {
 
     ghost view = { λ m. m.diagram };
 
-    ghost invariant = { λ m. All (IsRemembered (stated m.owner.tariff) m.diagram m.owner.color m.owner.goals) m.told.items };
+    ghost invariant = { λ m.
+        All (IsRemembered (stated m.owner.tariff) m.diagram m.owner.color m.owner.goals) m.told.items };
 }
 
 impl Memory {

@@ -27,13 +27,14 @@ use std::cell::RefCell;
 /// captured; each step costs the weight of his colour, a step marked as a capture the toll of its square beside it,
 /// and a man captured on a square is spared the other colour's toll there. In a game tolls vanish from the sum of both
 /// colours. So the bound excludes where the cheapest plans of both are charged more than the plies left pay for; and
-/// where a pawn of the diagram on its home rank does not stand there, or men of a colour are missing. Where a colour has
-/// more than sixteen men it looks at that alone, and of another diagram it says nothing.
+/// where a pawn of the diagram on its home rank does not stand there, or men of a colour are missing. Where a colour
+/// has more than sixteen men it looks at that alone, and of another diagram it says nothing.
 ///
 /// Any tariff is sound. What plans are charged at least is looked up in tables, some 12 KB for each colour and each
-/// number of captures that it may owe, from none. What a colour's men were charged is remembered, in some 60 KB for each
-/// colour, and looked up where they stand so again. A fate counts at most 254 above the cheapest one of its man, where to
-/// be captured counts 127 more than it is charged: with weights far above sixteenths of a ply that may be too low.
+/// number of captures that it may owe, from none. What a colour's men were charged is remembered, in some 60 KB for
+/// each colour, and looked up where they stand so again. A fate counts at most 254 above the cheapest one of its man,
+/// where to be captured counts 127 more than it is charged: with weights far above sixteenths of a ply that may be too
+/// low.
 #[derive(Drop)]
 pub struct Tolls {
     pub(crate) tariff: Tariff,

@@ -1,8 +1,7 @@
-use Rattle.std.proofs.Common.{ℕ, ◌≤◌, replicate, refl, arith}
+use Rattle.std.proofs.Common.{replicate, refl, arith}
 use Rattle.pg_journeys.specs.Known.{known}
 use Rattle.pg_tolls.specs.Stated.{stated}
-use Rattle.pg_tolls.specs.inner.Highest.{AreClosedAt, AreBelow}
-use Rattle.pg_tolls.specs.inner.Closing.{cell}
+use Rattle.pg_tolls.specs.inner.Highest.{AreClosedAt}
 use Rattle.pg_tolls.proofs.FillingLemmas.{ends_below, nothing_taken, no_numbers}
 use Rattle.pg_board.specs.declared.man.Kind.TheVariants.{Pawn}
 use Rattle.pg_tolls.proofs.filling.fill_first.Goals as goal

@@ -1,4 +1,4 @@
-use Rattle.std.proofs.Common.{ℕ, ◌≤◌, subst, arith}
+use Rattle.std.proofs.Common.{ℕ, subst, arith}
 use Rattle.pg_journeys.specs.Known.{known}
 use Rattle.pg_tolls.specs.Stated.{stated}
 use Rattle.pg_tolls.specs.inner.Highest.{AreClosedAt, KeepsSteps}

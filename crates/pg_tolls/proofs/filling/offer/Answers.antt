@@ -1,4 +1,4 @@
-use Rattle.std.proofs.Common.{◌≡◌, true, arith, ◌∙◌}
+use Rattle.std.proofs.Common.{◌≡◌, true, ◌∙◌}
 use Rattle.pg_board.specs.Bits.{has}
 use Rattle.pg_travel.proofs.TakenSets.{fewer}
 use Rattle.pg_tolls.specs.inner.Highest.{IsOffer}

@@ -1,4 +1,4 @@
-use Rattle.std.proofs.Common.{sym, ap, subst, List, ℕ}
+use Rattle.std.proofs.Common.{subst, List, ℕ}
 use Rattle.pg_journeys.specs.Known.{known}
 use Rattle.pg_tolls.specs.Stated.{stated}
 use Rattle.pg_tolls.specs.inner.Closing.{AreLayers}

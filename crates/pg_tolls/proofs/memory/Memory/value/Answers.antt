@@ -1,6 +1,5 @@
-use Rattle.std.proofs.Common.{◌≡◌, List, sym, arith}
+use Rattle.std.proofs.Common.{◌≡◌, arith}
 use Rattle.std.specs.Prelude.{All}
-use Rattle.pg_board.specs.Placement.{Placement}
 use Rattle.pg_tolls.specs.Stated.{stated}
 use Rattle.pg_tolls.specs.inner.Remembering.{IsOwner, IsRemembered}
 use Rattle.pg_tolls.proofs.MemoryLemmas.{same_diagram, owned, given_back, lent, kept}
