@@ -52,6 +52,9 @@ read_from_placed text b h = rw (h.ranks, h.letters, h.kings, h.pawns) (ap Ok h.b
 pub diagram_from_tests : (b : Placement) → has_kings b ≡ true → has_no_edge_pawn b ≡ true → IsDiagram b
 diagram_from_tests b k p = record { kings = (has_kings_is b).0 k; pawns = (has_no_edge_pawn_is b).0 p }
 
+pub tests_of_diagram : (b : Placement) → IsDiagram b → (has_kings b ≡ true) × (has_no_edge_pawn b ≡ true)
+tests_of_diagram b d = ((has_kings_is b).1 d.kings, (has_no_edge_pawn_is b).1 d.pawns)
+
 pub diagram_from_read : (text : List ℕ) (b : Placement) → read_placement text ≡ Ok b → IsDiagram b
 diagram_from_read text b e =
     let h = placed_from_read text b e in

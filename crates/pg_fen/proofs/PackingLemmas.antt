@@ -1,28 +1,26 @@
 -- Placements with the same packed bytes are one placement.
-use Rattle.std.proofs.Common.{◌≡◌, ℕ, ◌+◌, ◌*◌, ◌/◌, ◌%◌, ◌-◌, ◌<◌, cond, eqb, ltb, List, length, get_or, Option, Some, None, refl, sym, ap, ◌∙◌, arith, inl, inr}
-use Rattle.std.specs.Prelude.{◌↔◌}
+use Rattle.std.proofs.Common.{◌≡◌, ℕ, Bool, true, false, ◌+◌, ◌*◌, ◌/◌, ◌%◌, ◌<◌, cond, eqb, List, length, get_or, Option, Some, None, refl, sym, ap, ◌∙◌, arith, inl, inr}
+use Rattle.std.specs.Prelude.{◌↔◌, ◌≢◌, ◌≤◌, slice_index, nat_eq}
+use Rattle.std.specs.Cmp.Lexicographic.{pointwise}
+use Rattle.std.proofs.lemmas.Bool.Decides.{Decides-eqb}
+use Rattle.std.proofs.lemmas.Slice.Eq.{slice_eq-Decides}
 use Rattle.std.proofs.lemmas.Bool.{cases_lt}
 use Rattle.std.proofs.lemmas.List.FromFn.{get_or-map-range_with_len, fill_by_all}
 use Rattle.pg_board.specs.declared.man.Color.{Color}
-use Rattle.pg_board.specs.declared.man.Color.TheVariants.{White, Black}
 use Rattle.pg_board.specs.declared.man.Kind.{Kind}
 use Rattle.pg_board.specs.declared.man.Man.{Man}
 use Rattle.pg_board.specs.Men.{man}
-use Rattle.pg_board.specs.lemmas.Codes.{kind_of_number}
 use Rattle.pg_board.specs.lemmas.Kinds.{each_man}
-use Rattle.pg_board.specs.Placement.{Placement, get, same_placement}
+use Rattle.pg_board.specs.lemmas.Placements.{get-empty, get-write_same, get-write_other}
+use Rattle.pg_board.specs.Placement.{Placement, get, empty, write, same_placement}
 use Rattle.pg_fen.specs.Packing.{cell_code, packed_byte, packed_of}
+use Rattle.pg_fen.specs.inner.Cells.{number_at, cell_from}
 
 -- the square's content, back from its number
-cell_from : ℕ → Option Man
-cell_from n = cond (eqb n 0) None (cond (ltb n 9) (Some (man White (kind_of_number (n - 1)))) (Some (man Black (kind_of_number (n - 9)))))
-
 man_back : (c : Color) (k : Kind) → cell_from (cell_code (Some (man c k))) ≡ Some (man c k)
-unfolding cell_from
 man_back = each_man (λ c k. cell_from (cell_code (Some (man c k))) ≡ Some (man c k)) (refl, refl, refl, refl, refl, refl) (refl, refl, refl, refl, refl, refl)
 
 cell_back : (o : Option Man) → cell_from (cell_code o) ≡ o
-unfolding cell_from
 cell_back None = refl
 cell_back (Some m) = man_back m.color m.kind
 
@@ -69,3 +67,82 @@ packed_apart a b = (λ e. same_placement a b (same_squares a b e), λ e. ap pack
 pub packed_all : (b : Placement) (bytes : List ℕ) → length bytes ≡ 32 → ((k : ℕ) → k < 32 → get_or bytes k 0 ≡ packed_byte b k) → bytes ≡ packed_of b
 unfolding packed_of
 packed_all b bytes len h = fill_by_all (packed_byte b) bytes 32 0 len h
+
+-- ---- and back: a square's number is that of what stands there
+low_of : (x y : ℕ) → x < 16 → (x + 16 * y) % 16 ≡ x
+low_of x y lt = omega arith
+
+high_of : (x y : ℕ) → x < 16 → (x + 16 * y) / 16 ≡ y
+high_of x y lt = omega arith
+
+number_is : (b : Placement) (s : ℕ) → s < 64 → number_at (packed_of b) s ≡ cell_code (get b s)
+number_is b s lt = by_half (eqb (s % 2) 0) refl
+  where
+    at : get_or (packed_of b) (s / 2) 0 ≡ packed_byte b (s / 2)
+    at = get-packed b (s / 2) (omega arith)
+
+    low : cell_code (get b (2 * (s / 2))) < 16
+    low = cell_low (get b (2 * (s / 2)))
+
+    by_half : (t : Bool) → eqb (s % 2) 0 ≡ t
+        → cond t (slice_index (packed_of b) (s / 2) % 16) (slice_index (packed_of b) (s / 2) / 16) ≡ cell_code (get b s)
+    by_half true e =
+        let same : 2 * (s / 2) ≡ s = grind arith in
+        ap (λ (n : ℕ). n % 16) at ∙ low_of (cell_code (get b (2 * (s / 2)))) (cell_code (get b (2 * (s / 2) + 1))) low
+        ∙ ap (λ (q : ℕ). cell_code (get b q)) same
+    by_half false e =
+        let same : 2 * (s / 2) + 1 ≡ s = grind arith in
+        ap (λ (n : ℕ). n / 16) at ∙ high_of (cell_code (get b (2 * (s / 2)))) (cell_code (get b (2 * (s / 2) + 1))) low
+        ∙ ap (λ (q : ℕ). cell_code (get b q)) same
+
+-- what was put on a board so far: on the squares below i what the bytes say, and nothing from i on
+pub record IsPut (bytes : List ℕ) (i : ℕ) (b : Placement) : Type 0 where
+  pub laid : (q : ℕ) → q < i → get b q ≡ cell_from (number_at bytes q)
+  pub bare : (q : ℕ) → i ≤ q → get b q ≡ None
+
+pub put_none : (bytes : List ℕ) (b : Placement) → b ≡ empty → IsPut bytes 0 b
+put_none bytes b e = record {
+  laid = λ q lt. let none : ⊥ = omega arith in absurd none;
+  bare = λ q le. ap (λ (x : Placement). get x q) e ∙ get-empty q;
+}
+
+-- one square more, with a man or without
+pub put_more : (bytes : List ℕ) (i : ℕ) (b c : Placement) (o : Option Man) → i < 64 → o ≡ cell_from (number_at bytes i) → c ≡ write b i o
+    → IsPut bytes i b → IsPut bytes (i + 1) c
+put_more bytes i b c o lt e w h = record {
+  laid = λ q l. elim (cases_lt q i) [
+    | inl less ↦ ap (λ (x : Placement). get x q) w ∙ get-write_other b i o q (omega arith) ∙ h.laid q less
+    | inr more ↦ let k : q ≡ i = omega arith in ap (λ (x : Placement). get x q) w ∙ ap (get (write b i o)) k ∙ get-write_same b i o lt ∙ e ∙ ap (λ (x : ℕ). cell_from (number_at bytes x)) (sym k)
+  ];
+  bare = λ q le. ap (λ (x : Placement). get x q) w ∙ get-write_other b i o q (omega arith) ∙ h.bare q (omega arith);
+}
+
+pub put_nothing : (bytes : List ℕ) (i : ℕ) (b : Placement) → i < 64 → None ≡ cell_from (number_at bytes i) → IsPut bytes i b → IsPut bytes (i + 1) b
+put_nothing bytes i b lt e h = record {
+  laid = λ q l. elim (cases_lt q i) [
+    | inl less ↦ h.laid q less
+    | inr more ↦ let k : q ≡ i = omega arith in h.bare q (omega arith) ∙ e ∙ ap (λ (x : ℕ). cell_from (number_at bytes x)) (sym k)
+  ];
+  bare = λ q le. h.bare q (omega arith);
+}
+
+-- the board of the bytes of a placement is that placement
+pub put_back : (a b : Placement) (bytes : List ℕ) → packed_of a ≡ bytes → IsPut bytes 64 b → b ≡ a
+put_back a b bytes e h = same_placement b a (λ q lt.
+    h.laid q lt ∙ ap (λ (x : List ℕ). cell_from (number_at x q)) (sym e) ∙ ap cell_from (number_is a q lt) ∙ cell_back (get a q))
+
+-- the two answers to bytes, by the board that was put together
+pub same_bytes : (b : Placement) (bytes packed : List ℕ) (same : Bool) → packed ≡ packed_of b → same ≡ pointwise nat_eq packed bytes → same ≡ true
+    → packed_of b ≡ bytes
+same_bytes b bytes packed same p s t = sym p ∙ (slice_eq-Decides Decides-eqb packed bytes (pointwise nat_eq packed bytes) refl).0 (sym s ∙ t)
+
+pub is_unpacked : (a b : Placement) (bytes : List ℕ) → packed_of b ≡ bytes → (Some b ≡ Some a) ↔ (packed_of a ≡ bytes)
+is_unpacked a b bytes e = (λ s. let same : b ≡ a = cc in sym (ap packed_of same) ∙ e, λ f. ap Some ((packed_apart b a).0 (e ∙ sym f)))
+
+pub has_no_board : (a b : Placement) (bytes packed : List ℕ) (same : Bool) → packed ≡ packed_of b → same ≡ pointwise nat_eq packed bytes → same ≡ false
+    → IsPut bytes 64 b → packed_of a ≢ bytes
+has_no_board a b bytes packed same p s f h e =
+    let is : packed ≡ bytes = p ∙ ap packed_of (put_back a b bytes e h) ∙ e in
+    let yes : pointwise nat_eq packed bytes ≡ true = (slice_eq-Decides Decides-eqb packed bytes (pointwise nat_eq packed bytes) refl).1 is in
+    let no_ : false ≡ true = sym f ∙ s ∙ yes in
+    absurd cc

@@ -8,3 +8,4 @@ pub mod Packing
 pub mod PlacementText
 pub mod PositionText
 pub mod PositionWriting
+pub mod inner

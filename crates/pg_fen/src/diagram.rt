@@ -1,5 +1,5 @@
 //! Diagrams.
-ghost use Rattle.std.specs.Prelude.{◌≡◌, ◌↔◌, IsTrue, IfOk, Ok};
+ghost use Rattle.std.specs.Prelude.{◌≡◌, ◌↔◌, IsTrue, IfOk, Ok, Some};
 ghost use Rattle.std.specs.Cmp.{partial_equiv_from_equiv, decided};
 ghost use Rattle.pg_board.specs.Placement.{Placement};
 ghost use Rattle.pg_board.specs.Equality.{placement_eq, placement_eq_decides};
@@ -11,8 +11,8 @@ ghost use Rattle.pg_fen.specs.DiagramText.{IsDiagram, diagram_of};
 use crate::details::details_of;
 use crate::fault::FenFault;
 use crate::fields::fields_of;
-use crate::packing::packed_of;
-use crate::placement::read_placement;
+use crate::packing::{packed_of, unpacked};
+use crate::placement::{is_diagram, read_placement};
 use crate::writing::put_placement;
 use arrayvec::ArrayString;
 use pg_board::Board;
@@ -102,6 +102,18 @@ impl Diagram {
         ensures alone { (other : Placement) → packed_of other ≡ result → other ≡ self.now }
     {
         packed_of(&self.board)
+    }
+
+    /// The diagram with these 32 bytes, which are as `packed` gives them; none where no diagram has them.
+    pub fn from_packed(bytes: &[u8; 32]) -> Option<Diagram>
+        ensures { (d : Placement) → (result ≡ Some d) ↔ (IsDiagram d × (packed_of d ≡ bytes.now)) }
+    {
+        let board = unpacked(bytes)?;
+        if is_diagram(&board) {
+            Some(Diagram { board })
+        } else {
+            None
+        }
     }
 
     /// The diagram of a position: its placement alone.

@@ -1,5 +1,5 @@
 //! The placement of men as text.
-ghost use Rattle.std.specs.Prelude.{◌≡◌, ◌+◌, ◌++◌, ◌<◌, ◌≤◌, ◌==◌, IsTrue, length};
+ghost use Rattle.std.specs.Prelude.{◌≡◌, ◌↔◌, ◌+◌, ◌++◌, ◌<◌, ◌≤◌, ◌==◌, IsTrue, length};
 ghost use Rattle.std.specs.List.{slice_split, list_all, count_by};
 ghost use Rattle.pg_board.specs.Men.{king_of};
 ghost use Rattle.pg_board.specs.Tally.{count_of, tally};
@@ -7,6 +7,7 @@ ghost use Rattle.pg_fen.specs.PlacementText.{is_run, width_of, is_eight_wide, ra
 ghost use Rattle.pg_fen.specs.PlacementText.{letters_fit, seen_at};
 ghost use Rattle.pg_fen.specs.PlacementText.{placed, has_kings, is_edge, is_edge_pawn, has_no_edge_pawn};
 ghost use Rattle.pg_fen.specs.PlacementText.{read_placement};
+ghost use Rattle.pg_fen.specs.DiagramText.{IsDiagram};
 
 use crate::fault::FenFault;
 use crate::letters::man_of;
@@ -139,6 +140,13 @@ fn edge_pawns(board: &Board) -> u8
         }
     }
     n
+}
+
+/// Whether a board has one king of each colour and no pawn on rank 1 or 8.
+pub fn is_diagram(board: &Board) -> bool
+    ensures { IsTrue result ↔ IsDiagram board.now }
+{
+    has_kings(board) && edge_pawns(board) == 0
 }
 
 /// The board that a placement spells, or the first fault that it has.

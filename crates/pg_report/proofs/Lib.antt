@@ -3,5 +3,4 @@ pub mod RunLemmas
 pub mod ShortestLemmas
 pub mod ShowLemmas
 pub mod SideLemmas
-pub mod SymbolLemmas
 pub mod WithinLemmas

@@ -7,4 +7,3 @@ pub mod Showing
 pub mod Expecting
 pub mod Naming
 pub mod Answering
-pub mod inner
