@@ -104,11 +104,12 @@ module _ (p : State) (b : Placement) (c : Color) (h : ℕ) (pos : IsPosition p) 
       neither false w e = (refl, e)
 
 -- ---- the men of a kind, off those that may be pinned
-pub men_guarded : (p : State) (b : Placement) (m : Man) (pinned goals left men set : ℕ) → b ≡ p.board → m.color ≡ p.side → GuardsOff p pinned goals → AreOff pinned left → ((q : ℕ) → q < 64 → has men q ≡ is_man m (get b q)) → ((q : ℕ) → has set q ≡ has left q && has men q)
-    → (q : ℕ) → q < 64 → has set q ≡ true → IsGuardedMan p m.kind goals q
+pub men_guarded : (p : State) (b : Placement) (c : Color) (k : Kind) (pinned goals left men set : ℕ) → b ≡ p.board → c ≡ p.side → GuardsOff p pinned goals → AreOff pinned left
+    → ((q : ℕ) → q < 64 → has men q ≡ is_man (man c k) (get b q)) → ((q : ℕ) → has set q ≡ has left q && has men q)
+    → (q : ℕ) → q < 64 → has set q ≡ true → IsGuardedMan p k goals q
 unfolding GuardsOff
-men_guarded p b m pinned goals left men set eb ec guards off are of_left q l e =
+men_guarded p b c k pinned goals left men set eb ec guards off are of_left q l e =
     let h = and_true (has left q) (has men q) (sym (of_left q) ∙ e) in
-    let there : get b q ≡ Some m = (is_man_decides m (get b q)).0 (sym (are q l) ∙ h.1) in
-    let here : Stands p.board p.side m.kind q = subst (λ (d : Placement). get d q ≡ Some (man p.side m.kind)) eb (there ∙ ap (λ (x : Color). Some (man x m.kind)) ec) in
-    guards m.kind q l here (off q l h.0)
+    let there : get b q ≡ Some (man c k) = (is_man_decides (man c k) (get b q)).0 (sym (are q l) ∙ h.1) in
+    let here : Stands p.board p.side k q = subst (λ (d : Placement). get d q ≡ Some (man p.side k)) eb (there ∙ ap (λ (x : Color). Some (man x k)) ec) in
+    guards k q l here (off q l h.0)

@@ -1,18 +1,20 @@
 -- Legal moves counted off the men that are still to be counted. Leads to the contracts of the count kind by kind.
-use Rattle.std.proofs.Common.{arith, ◌≡◌, ◌≢◌, ℕ, zero, suc, ◌+◌, ◌<◌, ◌≤◌, inl, inr, Bool, true, false, ◌&&◌, not, cond, nat_eq, refl, sym, ap, ap₂, ◌∙◌, subst}
+use Rattle.std.proofs.Common.{arith, ◌≡◌, ◌≢◌, ℕ, zero, suc, ◌+◌, ◌*◌, ◌<◌, ◌≤◌, inl, inr, Bool, true, false, ◌&&◌, not, cond, nat_eq, refl, sym, ap, ap₂, ◌∙◌, subst}
 use Rattle.std.proofs.lemmas.Bool.Decides.{eqb_tells}
+use Rattle.pg_board.specs.declared.man.Kind.TheVariants.{King}
 use Rattle.pg_board.specs.Men.{is_of}
 use Rattle.pg_board.specs.Placement.{get}
 use Rattle.pg_board.specs.Bits.{has, has-none}
 use Rattle.pg_board.specs.Tally.{one, total, count_below}
-use Rattle.pg_board.specs.lemmas.Sums.{total-none, total-suc, total-zero, total_changed}
+use Rattle.pg_board.specs.lemmas.Sums.{total-le, total-none, total-suc, total-zero, total_changed}
 use Rattle.pg_board.proofs.SetLemmas.{and_true}
 use Rattle.pg_board.specs.SquareSets.{IsSetOf, IsFirstFrom, HasNoneFrom}
 use Rattle.pg_position.specs.declared.state.State.{State}
-use Rattle.pg_position.specs.Position.{IsPosition}
+use Rattle.pg_position.specs.Position.{Stands, IsPosition}
 use Rattle.pg_moves.specs.Counts.{IsGameCount}
-use Rattle.pg_moves.specs.inner.Places.{place_of, NoneFrom, IsCountBelow, Adds}
-use Rattle.pg_moves.specs.inner.Guards.{AreOff, CountsOn, CountsOff}
+use Rattle.pg_moves.specs.Targets.{IsOwn}
+use Rattle.pg_moves.specs.inner.Places.{most_moves, most_of_a_man, place_of, NoneFrom, IsCountBelow, Adds}
+use Rattle.pg_moves.specs.inner.Guards.{GuardsOff, AreOff, CountsOn, CountsOff, IsCounted}
 use Rattle.pg_moves.proofs.ShiftLemmas.{total_add}
 use Rattle.pg_moves.proofs.TargetLemmas.{own_set}
 use Rattle.pg_moves.proofs.SearchLemmas.{own_gap}
@@ -48,9 +50,18 @@ counted_start p own is_own = record {
     each = λ _. 0;
     adds = λ q l e. adds_none p own is_own q l (false_of (has own q) e);
     none = λ q l e. refl;
+    few = λ q l. omega arith;
     sum = sym (total-zero (λ _. 0) 64 (λ _ _. refl));
   };
 }
+
+-- ---- as many moves as there are places at most
+all_few : (n : ℕ) → total (λ _. most_of_a_man) n ≡ n * most_of_a_man
+all_few zero = total-none (λ _. most_of_a_man)
+all_few (suc n) = let before : total (λ _. most_of_a_man) n ≡ n * most_of_a_man = all_few n in omega (arith, total-suc (λ _. most_of_a_man) n)
+
+pub counted_few : (p : State) (t : ℕ → Bool) (n : ℕ) → CountsOn p t n → n ≤ most_moves
+counted_few p t n h = omega (arith, h.sum, total-le h.each (λ _. most_of_a_man) 64 h.few, all_few 64)
 
 -- ---- one man more
 bumped : (each : ℕ → ℕ) (s k : ℕ) → ℕ → ℕ
@@ -65,9 +76,9 @@ unfolding bumped
 bumped_else each s k q ne = elim (eqb_tells q s) [ inl w ↦ absurd (ne w.1) | inr w ↦ ap (λ (x : Bool). cond x k (each q)) w.0 ]
 
 -- u has one square more than t, and the man there k moves
-pub one_more : (p : State) (t u : ℕ → Bool) (n k s : ℕ) → CountsOn p t n → s < 64 → t s ≡ false → Adds p (place_of s 0 0) (place_of (s + 1) 0 0) k
-    → u s ≡ true → ((q : ℕ) → q < 64 → q ≢ s → u q ≡ t q) → CountsOn p u (n + k)
-one_more p t u n k s c on off more here rest = record {
+pub one_more : (p : State) (t u : ℕ → Bool) (n k s : ℕ) → CountsOn p t n → s < 64 → t s ≡ false
+    → Adds p (place_of s 0 0) (place_of (s + 1) 0 0) k → k ≤ most_of_a_man → u s ≡ true → ((q : ℕ) → q < 64 → q ≢ s → u q ≡ t q) → CountsOn p u (n + k)
+one_more p t u n k s c on off more small here rest = record {
   each = bumped c.each s k;
   adds = λ q l e. elim (eqb_tells q s) [
     | inl w ↦ subst (λ (x : ℕ). Adds p (place_of q 0 0) (place_of (q + 1) 0 0) x) (sym (bumped_there c.each s k q w.1)) (subst (λ (x : ℕ). Adds p (place_of x 0 0) (place_of (x + 1) 0 0) k) (sym w.1) more)
@@ -76,6 +87,10 @@ one_more p t u n k s c on off more here rest = record {
   none = λ q l e. elim (eqb_tells q s) [
     | inl w ↦ absurd (let x : u q ≡ u s = ap u w.1 in cc)
     | inr w ↦ bumped_else c.each s k q w.1 ∙ c.none q l (sym (rest q l w.1) ∙ e)
+  ];
+  few = λ q l. elim (eqb_tells q s) [
+    | inl w ↦ omega (arith, small, bumped_there c.each s k q w.1)
+    | inr w ↦ omega (arith, c.few q l, bumped_else c.each s k q w.1)
   ];
   sum =
       (let all : total (bumped c.each s k) 64 + c.each s ≡ total c.each 64 + bumped c.each s k s = total_changed c.each (bumped c.each s k) 64 s on (λ q _ ne. bumped_else c.each s k q ne) in
@@ -116,6 +131,7 @@ taking_start p men = record {
     each = λ _. 0;
     adds = λ q l e. absurd (never (has men q) e);
     none = λ q l e. refl;
+    few = λ q l. omega arith;
     sum = sym (total-zero (λ _. 0) 64 (λ _ _. refl));
   };
   inside = λ q l e. e;
@@ -125,14 +141,15 @@ taking_start p men = record {
     never true e = cc
     never false e = cc
 
-pub taking_step : (p : State) (men old new s n k : ℕ) → IsTaking p men old n → IsFirstFrom old 0 s → IsWithout old new s → Adds p (place_of s 0 0) (place_of (s + 1) 0 0) k → IsTaking p men new (n + k)
-taking_step p men old new s n k h first rest more =
+pub taking_step : (p : State) (men old new s n k : ℕ) → IsTaking p men old n → IsFirstFrom old 0 s → IsWithout old new s
+    → Adds p (place_of s 0 0) (place_of (s + 1) 0 0) k → k ≤ most_of_a_man → IsTaking p men new (n + k)
+taking_step p men old new s n k h first rest more small =
     let on : s < 64 = first.on_board in
     let off : has new s ≡ false = gone old new s s rest on refl in
     record {
       counts = one_more p (λ q. has men q && not (has old q)) (λ q. has men q && not (has new q)) n k s h.counts on
           (let x : has old s ≡ true = first.member in both_off (has men s) (has old s) x)
-          more
+          more small
           (both_on (has men s) (has new s) (h.inside s on first.member) off)
           (λ q l ne. ap (λ (x : Bool). has men q && not x) (stays old new s q rest l ne));
       inside = λ q l e. elim (eqb_tells q s) [
@@ -153,6 +170,7 @@ taking_end p men left n h none = record {
   each = h.counts.each;
   adds = λ q l e. h.counts.adds q l (both_on (has men q) (has left q) e (none q (omega arith) l));
   none = λ q l e. h.counts.none q l (first_off (has men q) (has left q) e);
+  few = h.counts.few;
   sum = h.counts.sum;
 }
   where
@@ -162,21 +180,27 @@ taking_end p men left n h none = record {
     first_off : (a b : Bool) → a ≡ false → a && not b ≡ false
     first_off a b e = cc
 
+-- so few that they can be added
+pub taking_few : (p : State) (men left n : ℕ) → IsTaking p men left n → n ≤ most_moves
+taking_few p men left n h = counted_few p (λ q. has men q && not (has left q)) n h.counts
+
 -- one man alone
-pub counted_one : (p : State) (set s k : ℕ) → IsSetOf set (λ q. q ≡ s) → s < 64 → Adds p (place_of s 0 0) (place_of (s + 1) 0 0) k → CountsOn p (has set) k
-counted_one p set s k is on more =
+pub counted_one : (p : State) (set s k : ℕ) → IsSetOf set (λ q. q ≡ s) → s < 64 → Adds p (place_of s 0 0) (place_of (s + 1) 0 0) k
+    → k ≤ most_of_a_man → CountsOn p (has set) k
+counted_one p set s k is on more small =
     let same : 0 + k ≡ k = omega arith in
     subst (λ (n : ℕ). CountsOn p (has set) n) same
     (one_more p (λ _. false) (has set) 0 k s
-    (record { each = λ _. 0; adds = λ q l e. absurd (cc); none = λ q l e. refl; sum = sym (total-zero (λ _. 0) 64 (λ _ _. refl)) })
-    on refl more ((is s on).1 refl) (λ q l ne. off (has set q) (λ e. ne ((is q l).0 e))))
+    (record { each = λ _. 0; adds = λ q l e. absurd (cc); none = λ q l e. refl; few = λ q l. omega arith; sum = sym (total-zero (λ _. 0) 64 (λ _ _. refl)) })
+    on refl more small ((is s on).1 refl) (λ q l ne. off (has set q) (λ e. ne ((is q l).0 e))))
   where
     off : (b : Bool) → ¬ (b ≡ true) → b ≡ false
     off true h = absurd (h refl)
     off false h = refl
 
 -- ---- a set of men more
-pub counted_off : (p : State) (left set next n k : ℕ) → CountsOff p left n → CountsOn p (has set) k → ((q : ℕ) → q < 64 → has set q ≡ true → has left q ≡ true) → ((q : ℕ) → q < 64 → has next q ≡ has left q && not (has set q)) → CountsOff p next (n + k)
+pub counted_off : (p : State) (left set next n k : ℕ) → CountsOff p left n → CountsOn p (has set) k → ((q : ℕ) → q < 64 → has set q ≡ true → has left q ≡ true)
+    → ((q : ℕ) → q < 64 → has next q ≡ has left q && not (has set q)) → CountsOff p next (n + k)
 counted_off p left set next n k a b inside rest = record {
   own = λ q l e. a.own q l (parts (has left q) (has set q) (sym (rest q l) ∙ e)).0;
   counts = record {
@@ -197,6 +221,10 @@ counted_off p left set next n k a b inside rest = record {
         let x : a.counts.each q ≡ 0 = a.counts.none q l (ap not f.0) in
         let y : b.each q ≡ 0 = b.none q l f.1 in
         omega arith);
+    few = λ q l. elim (has set q) as (λ v. has set q ≡ v → a.counts.each q + b.each q ≤ most_of_a_man) [
+      | true ↦ λ f. omega (arith, a.counts.none q l (ap not (inside q l f)), b.few q l)
+      | false ↦ λ f. omega (arith, b.none q l f, a.counts.few q l)
+    ] refl;
     sum = ap₂ (λ (x y : ℕ). x + y) a.counts.sum b.sum ∙ total_add a.counts.each b.each 64;
   };
 }
@@ -227,6 +255,41 @@ off_rest left other rest out q l e = (parts (has left q) (has other q) (sym (out
 
 pub off_fewer : (pinned left other rest : ℕ) → AreOff pinned left → ((q : ℕ) → q < 64 → has rest q ≡ has left q && not (has other q)) → AreOff pinned rest
 off_fewer pinned left other rest off out q l e = off q l (parts (has left q) (has other q) (sym (out q l) ∙ e)).0
+
+-- the king is counted, and the men that may be pinned
+king_own : (p : State) (own h : ℕ) → ((q : ℕ) → q < 64 → has own q ≡ is_of p.side (get p.board q)) → h < 64 → Stands p.board p.side King h → has own h ≡ true
+unfolding IsOwn
+king_own p own h is_own on here = (own_set p.board own p.side is_own h on).1 (King, here)
+
+-- what is left of the side's men without him are men of theirs
+pub still_own : (p : State) (own single others pinned both : ℕ) → ((q : ℕ) → q < 64 → has own q ≡ is_of p.side (get p.board q)) → ((q : ℕ) → q < 64 → has others q ≡ has own q && not (has single q))
+    → ((q : ℕ) → has both q ≡ has others q && has pinned q) → (q : ℕ) → q < 64 → has both q ≡ true → IsOwn p.board p.side q
+still_own p own single others pinned both is_own off are q l e =
+    (own_set p.board own p.side is_own q l).0 (parts (has own q) (has single q) (sym (off q l) ∙ inside_both others pinned both are q l e)).0
+
+pub counted_pinned : (p : State) (own h single others k pinned goals both rest n : ℕ) → ((q : ℕ) → q < 64 → has own q ≡ is_of p.side (get p.board q))
+    → h < 64 → Stands p.board p.side King h → IsSetOf single (λ q. q ≡ h) → Adds p (place_of h 0 0) (place_of (h + 1) 0 0) k → k ≤ 64
+    → ((q : ℕ) → q < 64 → has others q ≡ has own q && not (has single q)) → GuardsOff p pinned goals → ((q : ℕ) → has both q ≡ has others q && has pinned q)
+    → CountsOn p (has both) n → ((q : ℕ) → q < 64 → has rest q ≡ has others q && not (has pinned q)) → IsCounted p pinned goals rest (k + n)
+counted_pinned p own h single others k pinned goals both rest n is_own on here at more small off guards are counts out =
+    let king : CountsOff p others (0 + k) = counted_off p own single others 0 k (counted_start p own is_own) (counted_one p single h k at on more (omega arith))
+    (λ q l e. subst (λ (x : ℕ). has own x ≡ true) (sym ((at q l).0 e)) (king_own p own h is_own on here)) off in
+    let all : CountsOff p rest ((0 + k) + n) = counted_off p others both rest (0 + k) n king counts (inside_both others pinned both are) (without_both others pinned both rest are out) in
+    let same : (0 + k) + n ≡ k + n = omega arith in
+    record {
+      guards = guards;
+      off = off_rest others pinned rest out;
+      counts = subst (λ (x : ℕ). CountsOff p rest x) same all;
+    }
+
+-- a set of men more is counted, none of whom may be pinned
+pub counted_more : (p : State) (pinned goals left set next n k : ℕ) → IsCounted p pinned goals left n → CountsOn p (has set) k
+    → ((q : ℕ) → q < 64 → has set q ≡ true → has left q ≡ true) → ((q : ℕ) → q < 64 → has next q ≡ has left q && not (has set q)) → IsCounted p pinned goals next (n + k)
+counted_more p pinned goals left set next n k a b inside rest = record {
+  guards = a.guards;
+  off = off_fewer pinned left set next a.off rest;
+  counts = counted_off p left set next n k a.counts b inside rest;
+}
 
 below : (p : State) (left n : ℕ) (h : CountsOff p left n) → HasNoneFrom left 0 → (d : ℕ) → d ≤ 64 → IsCountBelow p (place_of d 0 0) (total h.counts.each d)
 unfolding Adds

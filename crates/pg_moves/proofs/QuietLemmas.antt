@@ -1,5 +1,5 @@
 -- Pawns that are counted all at once: which may be, and that the count is right.
-use Rattle.std.proofs.Common.{arith, ◌≡◌, ◌≢◌, ℕ, ◌+◌, ◌<◌, ◌⊎◌, inl, inr, Bool, true, false, ◌&&◌, ◌||◌, eqb, not, Option, None, Some, refl, sym, ap, ap₂, ◌∙◌, subst}
+use Rattle.std.proofs.Common.{arith, ◌≡◌, ◌≢◌, ℕ, ◌+◌, ◌<◌, ◌≤◌, ◌⊎◌, inl, inr, Bool, true, false, ◌&&◌, ◌||◌, eqb, not, Option, None, Some, refl, sym, ap, ap₂, ◌∙◌, subst}
 use Rattle.std.specs.Bool.{Decides}
 use Rattle.std.proofs.lemmas.Bool.Decides.{eqb_tells, Decides-at, Decides-or, Decides-and, Decides-eqb, Decides-like}
 use Rattle.pg_board.specs.declared.man.Color.{Color}
@@ -12,7 +12,7 @@ use Rattle.pg_board.specs.lemmas.Equalities.{is_man_decides}
 use Rattle.pg_board.specs.Placement.{Placement, get}
 use Rattle.pg_board.specs.Bits.{has, bits_below, has-bits_below, has-none}
 use Rattle.pg_board.specs.Tally.{one, total, count_below}
-use Rattle.pg_board.specs.lemmas.Sums.{count_below_same, total-zero, total_same, total_changed}
+use Rattle.pg_board.specs.lemmas.Sums.{count_below_same, one-le, total-zero, total_same, total_changed}
 use Rattle.pg_position.specs.declared.state.State.{State}
 use Rattle.pg_position.specs.Geometry.{IsForward, InPattern}
 use Rattle.pg_position.specs.Attack.{IsClear, Reaches}
@@ -22,7 +22,7 @@ use Rattle.pg_position.specs.Step.{IsEnemy, Goes}
 use Rattle.pg_position.specs.Squares.{ahead, home_rank}
 use Rattle.pg_position.proofs.LineLemmas.{pawn_near}
 use Rattle.pg_board.proofs.SetLemmas.{and_true, set_of_rest, set_none}
-use Rattle.pg_moves.specs.inner.Places.{place_of, Adds}
+use Rattle.pg_moves.specs.inner.Places.{most_of_a_man, place_of, Adds}
 use Rattle.pg_moves.specs.inner.Guards.{GuardsOff, AreOff, CountsOn}
 use Rattle.pg_moves.specs.Targets.{Advances, Strides, Leaps, CapturesEnPassant}
 use Rattle.pg_moves.specs.declared.pawns.PawnMoves.{PawnMoves}
@@ -259,12 +259,19 @@ no_ways b c pawns goals w is q l off =
     let v : has w.east q ≡ false = false_of _ (λ e. none ((is.east q l).0 e).0) in
     omega (arith, ap one x, ap one y, ap one z, ap one v)
 
+-- four from each at most
+few_ways : (w : PawnMoves) (q : ℕ) → moves_from w q ≤ most_of_a_man
+unfolding moves_from
+few_ways w q = omega (arith, one-le (has w.once q), one-le (has w.twice q), one-le (has w.west q), one-le (has w.east q))
+
 -- all of their moves
-pub pawns_counted : (p : State) (b : Placement) (c : Color) (pawns goals : ℕ) (w : PawnMoves) (n : ℕ) → b ≡ p.board → c ≡ p.side → AreWays b c pawns goals w → ((q : ℕ) → q < 64 → has pawns q ≡ true → IsQuiet p goals q) → n ≡ total (moves_from w) 64 → CountsOn p (has pawns) n
+pub pawns_counted : (p : State) (b : Placement) (c : Color) (pawns goals : ℕ) (w : PawnMoves) (n : ℕ) → b ≡ p.board → c ≡ p.side → AreWays b c pawns goals w
+    → ((q : ℕ) → q < 64 → has pawns q ≡ true → IsQuiet p goals q) → n ≡ total (moves_from w) 64 → CountsOn p (has pawns) n
 pawns_counted p b c pawns goals w n eb ec is quiet e = record {
   each = moves_from w;
   adds = pawn_adds p b c pawns goals w eb ec is quiet;
   none = no_ways b c pawns goals w is;
+  few = λ q l. few_ways w q;
   sum = e;
 }
 

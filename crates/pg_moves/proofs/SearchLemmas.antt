@@ -212,11 +212,6 @@ pub stands_own : (b : Placement) (c : Color) (s : ℕ) (m : Man) → IsOwn b c s
 unfolding IsOwn
 stands_own b c s m (k, own) e = let same : m ≡ man c k = (let o : get b s ≡ Some (man c k) = own in cc) in let kind : k ≡ m.kind = ap (λ (x : Man). x.kind) (sym same) in subst (λ (x : Kind). Stands b c x s) kind own
 
--- a man of the colour has it
-pub color_own : (b : Placement) (c : Color) (s : ℕ) (m : Man) → IsOwn b c s → get b s ≡ Some m → m.color ≡ c
-unfolding IsOwn
-color_own b c s m (k, own) e = let same : m ≡ man c k = (let o : get b s ≡ Some (man c k) = own in cc) in ap (λ (x : Man). x.color) same
-
 pub own_some : (b : Placement) (c : Color) (s : ℕ) → IsOwn b c s → get b s ≡ None → ⊥
 unfolding IsOwn
 own_some b c s (k, own) e = let o : get b s ≡ Some (man c k) = own in cc

@@ -10,8 +10,8 @@ ghost use Rattle.pg_moves.specs.Moves.{IsNext, IsLast};
 ghost use Rattle.pg_moves.specs.Targets.{FreeOff};
 
 use crate::men::{Men, are_known, keep_men, no_men, own_men};
-use crate::pins::{is_special, maybe_pinned};
-use crate::places::promotion_number;
+use crate::pins::{Pins, is_special, maybe_pinned};
+use crate::places::Target;
 use crate::sources::{Source, first_of_source, source_at};
 use crate::turns::{Turn, begin_each, begin_next, no_turn};
 use pg_board::{Square, SquareSet};
@@ -59,15 +59,10 @@ fn source_of_tried(position: &Position, peeked: &Peeked) -> Source
     // A fact for the proof: the square is on the board.
     peeked.m.from.index();
     let source = peeked.source;
-    if is_special(position, position.side(), source.kind, peeked.m.from) {
+    if is_special(position, source.kind, peeked.m.from) {
         return source;
     }
-    source_at(
-        position,
-        &position.board(),
-        peeked.maybe_pinned,
-        peeked.m.from,
-    )
+    source_at(&Pins::new(position, peeked.maybe_pinned), peeked.m.from)
 }
 
 // The squares of the set past a square.
@@ -106,9 +101,7 @@ fn next_tried(position: &Position, last: &Move, source: &Source) -> Option<Move>
 {
     // A fact for the proof: the square is on the board.
     last.from.index();
-    let to = last.to.index();
-    let number = promotion_number(last.promotion) + 1;
-    first_of_source(position, last.from, source, to, number)
+    first_of_source(position, last.from, source, Target::past(last))
 }
 
 // The first legal move of the men that did not yet move, with what is found for it, by what is kept of all men.
@@ -137,22 +130,21 @@ fn peek_known(position: &Position, men: &Men, old: &Turn) -> Option<Peeked>
 
 // The same where nothing is kept of them: each is looked at for himself.
 #[inline(always)]
-fn peek_each(position: &Position, maybe_pinned: SquareSet, old: &Turn) -> Option<Peeked>
-    requires free { FreeOff position.now maybe_pinned }
-    requires to_come { AreToCome position.now (men_from old.now.last) old.now.left }
-    requires done { IsManDone position.now old.now.last }
-    ensures { MatchOption result (IsLast position.now old.now.last)
-        (λ a. IsNext position.now old.now.last a.m × IsPeeked position.now a) }
+fn peek_each(pins: &Pins<'_>, old: &Turn) -> Option<Peeked>
+    requires to_come { AreToCome pins.now (men_from old.now.last) old.now.left }
+    requires done { IsManDone pins.now old.now.last }
+    ensures { MatchOption result (IsLast pins.now old.now.last)
+        (λ a. IsNext pins.now old.now.last a.m × IsPeeked pins.now a) }
 {
     let mut turn = *old;
-    if !begin_each(position, maybe_pinned, old.left, &mut turn) {
+    if !begin_each(pins, old.left, &mut turn) {
         return None;
     }
     let last = turn.last;
     match last {
         Some(m) => Some(Peeked {
             m,
-            maybe_pinned,
+            maybe_pinned: pins.maybe_pinned(),
             source: turn.source,
         }),
         None => unreachable!(),
@@ -272,7 +264,7 @@ impl LegalMoves {
         ensures { FreeOff self.now.position result }
     {
         match self.turn.last {
-            None => maybe_pinned(&self.position, &self.position.board()),
+            None => maybe_pinned(&self.position),
             Some(_) => self.maybe_pinned,
         }
     }
@@ -288,7 +280,10 @@ impl LegalMoves {
         if are_known(&self.men) {
             peek_known(&self.position, &self.men, &self.turn)
         } else {
-            peek_each(&self.position, self.men_maybe_pinned(), &self.turn)
+            peek_each(
+                &Pins::new(&self.position, self.men_maybe_pinned()),
+                &self.turn,
+            )
         }
     }
 

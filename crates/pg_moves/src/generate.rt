@@ -5,9 +5,10 @@ ghost use Rattle.pg_position.specs.declared.moves.Move.{Move};
 ghost use Rattle.pg_position.specs.Step.{IsLegal};
 
 use crate::cursor::LegalMoves;
-use crate::pins::maybe_pinned;
-use crate::places::promotion_number;
+use crate::pins::{Pins, maybe_pinned};
+use crate::places::Target;
 use crate::search::first_move;
+use pg_board::Square;
 use pg_position::{Move, Position};
 use std::alloc::{AllocError, Global};
 
@@ -17,16 +18,14 @@ use std::alloc::{AllocError, Global};
 pub fn next_legal(position: &Position, after: Option<Move>) -> Option<Move>
     ensures { MatchOption result (IsLast position.now after) (λ m. IsNext position.now after m) }
 {
-    let maybe_pinned = maybe_pinned(position, &position.board());
+    let pins = Pins::new(position, maybe_pinned(position));
     match after {
-        None => first_move(position, maybe_pinned, 0, 0, 0),
-        Some(m) => first_move(
-            position,
-            maybe_pinned,
-            m.from.index(),
-            m.to.index(),
-            promotion_number(m.promotion) + 1,
-        ),
+        None => first_move(&pins, Square::at(0), Target::first()),
+        Some(m) => {
+            // A fact for the proof: the square is on the board.
+            m.from.index();
+            first_move(&pins, m.from, Target::past(&m))
+        }
     }
 }
 

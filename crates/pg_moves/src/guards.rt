@@ -11,8 +11,9 @@ ghost use Rattle.pg_moves.specs.inner.Parries.{AreParries, IsLineAttacker, IsLin
 use crate::parries::{line_parries, parries_with};
 use crate::pawns::home;
 use crate::pins::{attacked_alone, men_of};
+use crate::player::Player;
 use pg_board::{Board, Color, Kind, Man, Square, SquareSet};
-use pg_position::{Position, attacks_from};
+use pg_position::attacks_from;
 
 // The king, the squares of him and of men that may be pinned, and the squares to which all other men may
 // go so that he is not attacked.
@@ -75,12 +76,12 @@ fn guards_none(board: &Board, color: Color, king: Square) -> bool {
 // The parries of an attack hold for each man that covers the king from no other: so they are found once for
 // all of them, and only men that may be pinned are lifted off the board, each for himself.
 #[inline(always)]
-pub(crate) fn find_guard(position: &Position, board: &Board) -> Guard
-    requires { board.now ≡ position.now.board }
-    ensures king { Stands position.now.board position.now.side Kind.King result.king }
-    ensures guards { GuardsOff position.now result.pinned result.goals }
+pub(crate) fn find_guard(player: &Player<'_>) -> Guard
+    ensures king { Stands player.now.board player.now.side Kind.King result.king }
+    ensures guards { GuardsOff player.now result.pinned result.goals }
 {
-    let side = position.side();
+    let side = player.color();
+    let board = player.board();
     match board.king(side) {
         Some(king) => {
             if !attacked_alone(board, king, side) {

@@ -7,8 +7,9 @@ ghost use Rattle.pg_board.specs.SquareSets.{IsSetOf};
 ghost use Rattle.pg_moves.specs.inner.Sources.{IsExact};
 ghost use Rattle.pg_moves.specs.Targets.{Advances, plain_move};
 
+use crate::player::Player;
 use crate::targets::advances;
-use pg_board::{Board, Color, Kind, Square, SquareSet};
+use pg_board::{Kind, Square, SquareSet};
 use pg_position::{Position, attacked};
 
 // The set, without the square unless that is kept.
@@ -24,20 +25,18 @@ fn kept_if(set: SquareSet, square: Square, keep: bool) -> SquareSet
 
 // Of the squares to which the king may step by his pattern those on which he would not be attacked.
 #[inline(always)]
-fn safe_steps(position: &Position, color: Color, from: Square, steps: SquareSet) -> SquareSet
-    requires color { color ≡ position.now.side }
-    requires stands { Stands position.now.board position.now.side Kind.King from }
-    requires steps { IsSetOf steps (Advances position.now.board position.now.side Kind.King from) }
-    ensures { IsSetOf result (λ q. (has steps q ≡ true) × IsLegal position.now (plain_move from q)) }
+fn safe_steps(player: &Player<'_>, from: Square, steps: SquareSet) -> SquareSet
+    requires stands { Stands player.now.board player.now.side Kind.King from }
+    requires steps { IsSetOf steps (Advances player.now.board player.now.side Kind.King from) }
+    ensures { IsSetOf result (λ q. (has steps q ≡ true) × IsLegal player.now (plain_move from q)) }
 {
     if steps.is_empty() {
         return SquareSet::empty();
     }
-    // Facts for the proof: the square is on the board, and what is handed in is a position.
+    // A fact for the proof: the square is on the board.
     from.index();
-    position.side();
-    let by = color.other();
-    let mut lifted = position.board();
+    let by = player.color().other();
+    let mut lifted = *player.board();
     lifted.take(from);
     let mut kept = steps;
     let mut left = steps;
@@ -48,33 +47,25 @@ fn safe_steps(position: &Position, color: Color, from: Square, steps: SquareSet)
     kept
 }
 
-// The squares to which the legal moves of the king of the side to move go, whose colour is handed in: by a step, and by
-// castling.
+// The squares to which the legal moves of the player's king go: by a step, and by castling.
 #[inline(always)]
-pub(crate) fn king_targets_of(
-    position: &Position,
-    board: &Board,
-    color: Color,
-    from: Square,
-) -> SquareSet
-    requires same { board.now ≡ position.now.board }
-    requires color { color ≡ position.now.side }
-    requires stands { Stands position.now.board position.now.side Kind.King from }
-    ensures { IsExact position.now from result }
+pub(crate) fn king_targets_of(player: &Player<'_>, from: Square) -> SquareSet
+    requires { Stands player.now.board player.now.side Kind.King from }
+    ensures { IsExact player.now from result }
 {
-    // Facts for the proof: the square is on the board, and what is handed in is a position.
+    // A fact for the proof: the square is on the board.
     from.index();
-    position.side();
-    let steps = advances(board, color, Kind::King, from);
-    safe_steps(position, color, from, steps) | position.castling_targets()
+    let steps = advances(player.board(), player.color(), Kind::King, from);
+    safe_steps(player, from, steps) | player.position().castling_targets()
 }
 
-// The same by the position's own side: not inlined, since the search meets few kings.
+// The same of a position: not inlined, since the search meets few kings.
 #[inline(never)]
-pub(crate) fn king_targets(position: &Position, board: &Board, from: Square) -> SquareSet
-    requires same { board.now ≡ position.now.board }
-    requires stands { Stands position.now.board position.now.side Kind.King from }
+pub(crate) fn king_targets(position: &Position, from: Square) -> SquareSet
+    requires { Stands position.now.board position.now.side Kind.King from }
     ensures { IsExact position.now from result }
 {
-    king_targets_of(position, board, position.side(), from)
+    let board = position.board();
+    let player = Player::new(position, &board, position.side());
+    king_targets_of(&player, from)
 }

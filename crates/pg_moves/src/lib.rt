@@ -14,6 +14,7 @@ mod parries;
 mod pawns;
 mod pins;
 mod places;
+mod player;
 mod progress;
 mod search;
 mod sources;

@@ -16,6 +16,7 @@ ghost use Rattle.pg_moves.specs.Targets.{IsOwn, Leaps, Advances};
 
 use crate::guards::find_guard;
 use crate::pawns::quiet_pawns;
+use crate::player::Player;
 use pg_board::{Board, Color, Kind, Man, Square, SquareSet};
 use pg_position::{Position, ahead, attacks_from};
 
@@ -115,12 +116,13 @@ fn find_men(position: &Position) -> Men
 {
     let board = position.board();
     let color = position.side();
-    let guard = find_guard(position, &board);
+    let player = Player::new(position, &board, color);
+    let guard = find_guard(&player);
     let own = board.squares_of_color(color);
     let free = own - guard.pinned;
     Men {
         pinned: guard.pinned,
-        quiet: quiet_pawns(position, &board, color, &guard, free),
+        quiet: quiet_pawns(&player, &guard, free),
         allowed: guard.goals - own,
     }
 }

@@ -15,6 +15,7 @@ ghost use Rattle.pg_moves.specs.Targets.{CapturesEnPassant};
 ghost use Rattle.pg_moves.specs.inner.Guards.{GuardsOff, AreOff};
 
 use crate::guards::Guard;
+use crate::player::Player;
 use pg_board::{Board, Color, Kind, Man, SquareSet};
 use pg_position::{Position, attacks_from, home_rank};
 
@@ -161,22 +162,13 @@ pub(crate) fn en_passant_sources(position: &Position) -> SquareSet
 
 // Pawns of these, none of which may be pinned, that neither promote nor capture en passant: so they need no trial.
 #[inline(always)]
-pub(crate) fn quiet_pawns(
-    position: &Position,
-    board: &Board,
-    color: Color,
-    guard: &Guard,
-    left: SquareSet,
-) -> SquareSet
-    requires same { board.now ≡ position.now.board }
-    requires color { color ≡ position.now.side }
-    requires guards { GuardsOff position.now guard.now.pinned guard.now.goals }
+pub(crate) fn quiet_pawns(player: &Player<'_>, guard: &Guard, left: SquareSet) -> SquareSet
+    requires guards { GuardsOff player.now guard.now.pinned guard.now.goals }
     requires off { AreOff guard.now.pinned left }
-    ensures quiet { (q : ℕ) → q < 64 → has result q ≡ true → IsQuiet position.now guard.now.goals q }
+    ensures quiet { (q : ℕ) → q < 64 → has result q ≡ true → IsQuiet player.now guard.now.goals q }
     ensures left { (q : ℕ) → q < 64 → has result q ≡ true → has left q ≡ true }
 {
-    // A fact for the proof: what is handed in is a position.
-    position.side();
-    let pawns = left & board.squares_of(Man::new(color, Kind::Pawn));
-    pawns - en_passant_sources(position) - home(color.other())
+    let color = player.color();
+    let pawns = left & player.board().squares_of(Man::new(color, Kind::Pawn));
+    pawns - en_passant_sources(player.position()) - home(color.other())
 }

@@ -11,6 +11,68 @@ ghost use Rattle.pg_moves.specs.Targets.{FreeOff, IsOrdinary, IsOwn, IsTried, on
 use crate::targets::en_passant_targets;
 use pg_board::{Board, Color, Kind, Man, Sets, Square, SquareSet};
 use pg_position::{Position, attacked, attacks_from, home_rank};
+use std::marker::Model;
+
+// A position, and the squares of the men of the side to move that may be pinned: all others are free. Contracts see the
+// position. Those who take one are inlined, so it is kept nowhere.
+#[derive(Drop)]
+pub(crate) struct Pins<'a> {
+    position: &'a Position,
+    maybe_pinned: SquareSet,
+}
+
+impl<'a> Model for Pins<'a> {
+    ghost use Rattle.pg_position.specs.declared.state.State.{State};
+    ghost use Rattle.pg_position.specs.contracts.state.State.{the_row as state_row};
+    ghost use Rattle.pg_moves.specs.Targets.{FreeOff};
+
+    ghost Value = { State };
+
+    ghost coded = { state_row.coded };
+
+    ghost view = { λ a. a.position.now };
+
+    ghost invariant = { λ a. FreeOff a.position.now a.maybe_pinned };
+}
+
+impl<'a> Pins<'a> {
+    #[inline(always)]
+    pub(crate) fn new(position: &'a Position, maybe_pinned: SquareSet) -> Pins<'a>
+        requires { FreeOff position.now maybe_pinned }
+        ensures { result ≡ position.now }
+    {
+        Pins {
+            position,
+            maybe_pinned,
+        }
+    }
+
+    // Where nothing is known of the men, each may be pinned.
+    #[inline(always)]
+    #[tactic(auto, using(crate::proofs::LeafLemmas::free_none_off))]
+    pub(crate) fn all(position: &'a Position) -> Pins<'a>
+        ensures { result ≡ position.now }
+    {
+        Pins {
+            position,
+            maybe_pinned: SquareSet::full(),
+        }
+    }
+
+    #[inline(always)]
+    pub(crate) fn position(&self) -> &'a Position
+        ensures { result.now ≡ self.now }
+    {
+        self.position
+    }
+
+    #[inline(always)]
+    pub(crate) fn maybe_pinned(&self) -> SquareSet
+        ensures { FreeOff self.now result }
+    {
+        self.maybe_pinned
+    }
+}
 
 // The squares with this man, as the bits of a number.
 fn bits_of(board: &Board, color: Color, kind: Kind) -> u64
@@ -90,20 +152,20 @@ fn seen_if_pinned(board: &Board, square: Square, color: Color, kind: Kind) -> Sq
 // the board. Else all in check, and else the king's and those that are seen from there along the lines of rooks, or of
 // bishops, by which he would be attacked then. Not inlined: else `next_legal`, which asks, spills its registers.
 #[inline(never)]
-pub(crate) fn maybe_pinned(position: &Position, board: &Board) -> SquareSet
-    requires { board.now ≡ position.now.board }
+pub(crate) fn maybe_pinned(position: &Position) -> SquareSet
     ensures { FreeOff position.now result }
 {
     let side = position.side();
+    let board = position.board();
     match board.king(side) {
         Some(king) => {
-            if !attacked_alone(board, king, side) {
+            if !attacked_alone(&board, king, side) {
                 SquareSet::single(king)
             } else if position.in_check() {
                 SquareSet::full()
             } else {
-                let straight = seen_if_pinned(board, king, side, Kind::Rook);
-                let diagonal = seen_if_pinned(board, king, side, Kind::Bishop);
+                let straight = seen_if_pinned(&board, king, side, Kind::Rook);
+                let diagonal = seen_if_pinned(&board, king, side, Kind::Bishop);
                 straight | diagonal | SquareSet::single(king)
             }
         }
@@ -113,16 +175,15 @@ pub(crate) fn maybe_pinned(position: &Position, board: &Board) -> SquareSet
 
 // Whether the man is a pawn that may promote or capture en passant.
 #[inline(always)]
-pub(crate) fn is_special(position: &Position, color: Color, kind: Kind, from: Square) -> bool
-    requires color { color ≡ position.now.side }
-    requires stands { Stands position.now.board position.now.side kind from }
+pub(crate) fn is_special(position: &Position, kind: Kind, from: Square) -> bool
+    requires { Stands position.now.board position.now.side kind from }
     ensures ordinary { IsFalse result → IsOrdinary position.now kind from }
     ensures tried { IsTrue result → IsTried position.now from }
 {
     match kind {
         Kind::Pawn => {
             if en_passant_targets(position, from).is_empty() {
-                from.rank() == home_rank(color.other())
+                from.rank() == home_rank(position.side().other())
             } else {
                 true
             }

@@ -4,9 +4,10 @@ ghost use Rattle.pg_position.specs.Position.{Stands};
 ghost use Rattle.pg_position.specs.Step.{IsLegal};
 ghost use Rattle.pg_moves.specs.inner.Places.{most_moves, place, place_of, NoneFrom, IsNextWithin};
 ghost use Rattle.pg_moves.specs.inner.Sources.{IsExact};
-ghost use Rattle.pg_moves.specs.Targets.{IsOwn, Covers, FreeOff};
+ghost use Rattle.pg_moves.specs.Targets.{IsOwn, Covers};
 
-use crate::places::{next_square, promotion_at, resume_at};
+use crate::pins::Pins;
+use crate::places::{Target, promotion_at};
 use crate::sources::{first_of_source, source_at};
 use pg_board::{Kind, Square, SquareSet};
 use pg_position::{Move, Position, must_promote};
@@ -45,15 +46,14 @@ fn promotions(position: &Position, kind: Kind, from: Square, to: Square) -> (u8,
 }
 
 // The first legal move from one square to another, from this promotion on.
-fn first_to(position: &Position, kind: Kind, from: Square, to: Square, number: u8) -> Option<Move>
-    requires stands { Stands position.now.board position.now.side kind from }
-    requires place { number ≤ 7 }
-    ensures { IsNextWithin position.now (place_of from to number) (place_of from to 7) result }
+fn first_to(position: &Position, kind: Kind, from: Square, target: Target) -> Option<Move>
+    requires { Stands position.now.board position.now.side kind from }
+    ensures { IsNextWithin position.now (place_of from target.to target.number) (place_of from target.to 7) result }
 {
-    let (start, end) = promotions(position, kind, from, to);
-    let start = start.max(number);
+    let (start, end) = promotions(position, kind, from, target.to);
+    let start = start.max(target.number);
     for k in start..end {
-        if let Some(m) = legal_at(position, from, to, k) {
+        if let Some(m) = legal_at(position, from, target.to, k) {
             return Some(m);
         }
     }
@@ -67,19 +67,15 @@ pub(crate) fn first_of_man(
     kind: Kind,
     from: Square,
     set: SquareSet,
-    to: u8,
-    number: u8,
+    target: Target,
 ) -> Option<Move>
     requires stands { Stands position.now.board position.now.side kind from }
     requires covers { Covers position.now from set }
-    requires target { to < 64 }
-    requires place { number ≤ 7 }
-    ensures { IsNextWithin position.now (place_of from to number) (place_of (from + 1) 0 0) result }
+    ensures { IsNextWithin position.now (place_of from target.to target.number) (place_of (from + 1) 0 0) result }
 {
-    let mut at = to;
+    let mut at = target.to.index();
     while let Some(square) = set.first_from(at) {
-        let start = resume_at(square.index(), to, number);
-        if let Some(m) = first_to(position, kind, from, square, start) {
+        if let Some(m) = first_to(position, kind, from, target.resume_at(square)) {
             return Some(m);
         }
         at = square.index() + 1;
@@ -93,17 +89,14 @@ pub(crate) fn first_of_exact(
     position: &Position,
     from: Square,
     set: SquareSet,
-    to: u8,
-    number: u8,
+    target: Target,
 ) -> Option<Move>
-    requires exact { IsExact position.now from set }
-    requires target { to < 64 }
-    requires place { number ≤ 7 }
-    ensures { IsNextWithin position.now (place_of from to number) (place_of (from + 1) 0 0) result }
+    requires { IsExact position.now from set }
+    ensures { IsNextWithin position.now (place_of from target.to target.number) (place_of (from + 1) 0 0) result }
 {
     // A fact for the proof: the square is on the board.
     from.index();
-    match set.first_from(next_square(to, number)) {
+    match set.first_from(target.next_square()) {
         Some(square) => Some(Move {
             from,
             to: square,
@@ -114,43 +107,26 @@ pub(crate) fn first_of_exact(
 }
 
 // The first legal move from a square, from this target and promotion on.
-fn first_of_square(
-    position: &Position,
-    maybe_pinned: SquareSet,
-    from: Square,
-    to: u8,
-    number: u8,
-) -> Option<Move>
-    requires free { FreeOff position.now maybe_pinned }
-    requires own { IsOwn position.now.board position.now.side from }
-    requires target { to < 64 }
-    requires place { number ≤ 7 }
-    ensures { IsNextWithin position.now (place_of from to number) (place_of (from + 1) 0 0) result }
+fn first_of_square(pins: &Pins<'_>, from: Square, target: Target) -> Option<Move>
+    requires { IsOwn pins.now.board pins.now.side from }
+    ensures { IsNextWithin pins.now (place_of from target.to target.number) (place_of (from + 1) 0 0) result }
 {
-    let source = source_at(position, &position.board(), maybe_pinned, from);
-    first_of_source(position, from, &source, to, number)
+    let source = source_at(pins, from);
+    first_of_source(pins.position(), from, &source, target)
 }
 
 // The first legal move from these squares and this promotion on.
-pub(crate) fn first_move(
-    position: &Position,
-    maybe_pinned: SquareSet,
-    from: u8,
-    to: u8,
-    number: u8,
-) -> Option<Move>
-    requires free { FreeOff position.now maybe_pinned }
-    requires source { from < 64 }
-    requires target { to < 64 }
-    requires place { number ≤ 7 }
-    ensures { IsNextWithin position.now (place_of from to number) most_moves result }
+pub(crate) fn first_move(pins: &Pins<'_>, from: Square, target: Target) -> Option<Move>
+    ensures { IsNextWithin pins.now (place_of from target.to target.number) most_moves result }
 {
+    let position = pins.position();
+    // A fact for the proof: the square is on the board.
+    target.to.index();
     let own = position.board().squares_of_color(position.side());
-    let mut at = from;
+    let mut at = from.index();
     while let Some(square) = own.first_from(at) {
-        let start = resume_at(square.index(), from, to);
-        let place = resume_at(square.index(), from, number);
-        if let Some(m) = first_of_square(position, maybe_pinned, square, start, place) {
+        let start = target.resume_of(square, from);
+        if let Some(m) = first_of_square(pins, square, start) {
             return Some(m);
         }
         at = square.index() + 1;

@@ -5,10 +5,12 @@ ghost use Rattle.pg_position.specs.Position.{Stands};
 ghost use Rattle.pg_moves.specs.Left.{IsFirstOfMan, IsFirstOfAll, men_from};
 ghost use Rattle.pg_moves.specs.inner.Men.{AreMen, AreToCome};
 ghost use Rattle.pg_moves.specs.inner.Sources.{IsExact, IsToldSource};
-ghost use Rattle.pg_moves.specs.Targets.{IsOwn, FreeOff};
+ghost use Rattle.pg_moves.specs.Targets.{IsOwn};
 
 use crate::kings::king_targets;
 use crate::men::{Men, is_of_kind, pawn_set, piece_set};
+use crate::pins::Pins;
+use crate::places::Target;
 use crate::search::first_of_man;
 use crate::sources::{Source, is_there, source_at};
 use pg_board::{Kind, Square, SquareSet};
@@ -91,7 +93,7 @@ fn begin_tried(
     requires tried { source.now.exact ≡ false }
     ensures { IsFirstOfMan position.now from left turn.old turn.new result }
 {
-    match first_of_man(position, source.kind, from, source.set, 0, 0) {
+    match first_of_man(position, source.kind, from, source.set, Target::first()) {
         Some(m) => {
             turn.last = Some(m);
             turn.left = left;
@@ -106,19 +108,12 @@ fn begin_tried(
 // Any man begins who has a legal move.
 #[inline(always)]
 #[tactic(auto, unfolding(crate::specs::inner::Sources::IsToldSource))]
-fn begin_any(
-    position: &Position,
-    maybe_pinned: SquareSet,
-    from: Square,
-    left: SquareSet,
-    turn: &mut Turn,
-) -> bool
-    requires free { FreeOff position.now maybe_pinned }
-    requires own { IsOwn position.now.board position.now.side from }
-    ensures { IsFirstOfMan position.now from left turn.old turn.new result }
+fn begin_any(pins: &Pins<'_>, from: Square, left: SquareSet, turn: &mut Turn) -> bool
+    requires { IsOwn pins.now.board pins.now.side from }
+    ensures { IsFirstOfMan pins.now from left turn.old turn.new result }
 {
-    let board = position.board();
-    let source = source_at(position, &board, maybe_pinned, from);
+    let position = pins.position();
+    let source = source_at(pins, from);
     if source.exact {
         begin_exact(position, source.kind, from, source.set, left, turn)
     } else {
@@ -132,12 +127,11 @@ fn begin_rare(position: &Position, from: Square, left: SquareSet, turn: &mut Tur
     requires own { IsOwn position.now.board position.now.side from }
     ensures { IsFirstOfMan position.now from left turn.old turn.new result }
 {
-    let board = position.board();
-    if is_there(&board, position.side(), Kind::King, from) {
-        let set = king_targets(position, &board, from);
+    if is_there(&position.board(), position.side(), Kind::King, from) {
+        let set = king_targets(position, from);
         return begin_exact(position, Kind::King, from, set, left, turn);
     }
-    begin_any(position, SquareSet::full(), from, left, turn)
+    begin_any(&Pins::all(position), from, left, turn)
 }
 
 // A piece of this kind begins that cannot be pinned, no king.
@@ -223,19 +217,13 @@ pub(crate) fn begin_next(position: &Position, men: &Men, all: SquareSet, turn: &
 
 // The same where nothing is kept of the men: each is looked at for himself.
 #[inline(always)]
-pub(crate) fn begin_each(
-    position: &Position,
-    maybe_pinned: SquareSet,
-    all: SquareSet,
-    turn: &mut Turn,
-) -> bool
-    requires free { FreeOff position.now maybe_pinned }
-    requires to_come { AreToCome position.now (men_from turn.old.last) all }
-    ensures { IsFirstOfAll position.now turn.old turn.new result }
+pub(crate) fn begin_each(pins: &Pins<'_>, all: SquareSet, turn: &mut Turn) -> bool
+    requires { AreToCome pins.now (men_from turn.old.last) all }
+    ensures { IsFirstOfAll pins.now turn.old turn.new result }
 {
     let mut left = all;
     while let Some(from) = left.pop_first() {
-        if begin_any(position, maybe_pinned, from, left, turn) {
+        if begin_any(pins, from, left, turn) {
             return true;
         }
     }

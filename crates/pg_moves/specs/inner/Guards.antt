@@ -1,6 +1,6 @@
 -- The men that cannot be pinned, and to which squares they may go for their king's sake; and the moves counted off the men
 -- that are still to be counted.
-use Rattle.std.specs.Prelude.{◌≡◌, ◌≢◌, ℕ, ◌+◌, ◌<◌, Bool, not, true, false}
+use Rattle.std.specs.Prelude.{◌≡◌, ◌≢◌, ℕ, ◌+◌, ◌<◌, ◌≤◌, Bool, not, true, false}
 use Rattle.pg_board.specs.declared.man.Kind.{Kind}
 use Rattle.pg_board.specs.declared.man.Kind.TheVariants.{King}
 use Rattle.pg_board.specs.Bits.{has}
@@ -9,7 +9,7 @@ use Rattle.pg_position.specs.declared.state.State.{State}
 use Rattle.pg_position.specs.Position.{Stands}
 use Rattle.pg_moves.specs.Targets.{IsOwn}
 use Rattle.pg_moves.specs.inner.Parries.{IsInVain, IsInShelter}
-use Rattle.pg_moves.specs.inner.Places.{place_of, Adds}
+use Rattle.pg_moves.specs.inner.Places.{most_of_a_man, place_of, Adds}
 
 -- the man on r is no king, and leaves his king unattacked just where he goes to one of the squares, en passant apart
 pub record IsGuardedMan (p : State) (k : Kind) (goals : ℕ) (r : ℕ) : Type 0 where
@@ -26,14 +26,21 @@ GuardsOff p pinned goals = (k : Kind) (r : ℕ) → r < 64 → Stands p.board p.
 abbrev pub AreOff : ℕ → ℕ → Type 0
 AreOff pinned left = (q : ℕ) → q < 64 → has left q ≡ true → has pinned q ≡ false
 
--- there are n legal moves from the squares with t, which are told square by square
+-- there are n legal moves from the squares with t, which are told square by square, each few
 pub record CountsOn (p : State) (t : ℕ → Bool) (n : ℕ) : Type 0 where
   pub each : ℕ → ℕ
   pub adds : (q : ℕ) → q < 64 → t q ≡ true → Adds p (place_of q 0 0) (place_of (q + 1) 0 0) (each q)
   pub none : (q : ℕ) → q < 64 → t q ≡ false → each q ≡ 0
+  pub few : (q : ℕ) → q < 64 → each q ≤ most_of_a_man
   pub sum : n ≡ total each 64
 
 -- men of the side to move stand on the set, and there are n legal moves from all other squares
 pub record CountsOff (p : State) (left : ℕ) (n : ℕ) : Type 0 where
   pub own : (q : ℕ) → q < 64 → has left q ≡ true → IsOwn p.board p.side q
   pub counts : CountsOn p (λ q. not (has left q)) n
+
+-- so it is of men none of whom may be pinned, and each of them may go just to the goals for his king's sake
+pub record IsCounted (p : State) (pinned goals left n : ℕ) : Type 0 where
+  pub guards : GuardsOff p pinned goals
+  pub off : AreOff pinned left
+  pub counts : CountsOff p left n

@@ -1,14 +1,10 @@
-use Rattle.std.proofs.Common.{◌≤◌, ◌+◌, ◌*◌}
 use Rattle.pg_board.specs.Bits.{has}
 use Rattle.pg_board.specs.Tally.{count_below}
 use Rattle.pg_moves.proofs.OffLemmas.{IsTaking}
 use Rattle.pg_moves.proofs.leaves.count_each.Given as goal
 
 abbrev pub invariant-loop-from : goal.invariant-loop-from
-invariant-loop-from l = record {
-  bound : l.total + 448 * count_below (has l.left) 64 ≤ 28672;
-  taking : IsTaking l.position l.fn.men l.left l.total;
-}
+invariant-loop-from l = IsTaking l.player l.fn.men l.left l.total
 
 abbrev pub decreases-loop-from : goal.decreases-loop-from
 decreases-loop-from l = count_below (has l.left) 64

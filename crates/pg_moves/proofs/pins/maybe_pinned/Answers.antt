@@ -7,10 +7,16 @@ pub returns-then-in_check : goal.returns-then-in_check
 returns-then-in_check c = free_none_off c.args.position.now c.full.result c.full.ensures
 
 pub returns-else-in_check : goal.returns-else-in_check
-returns-else-in_check c = free_lines c.args.position.now c.args.board.now c.side-side.result c.in-Some.king c.side-side.ensures.position c.requires c.side-side.ensures.value c.in-Some.ensures c.seen_if_pinned-straight.result c.seen_if_pinned-diagonal.result c.single-else-in_check.result c.bitor.result c.bitor-else-in_check.result c.seen_if_pinned-straight.ensures c.seen_if_pinned-diagonal.ensures c.single-else-in_check.ensures c.bitor.ensures.members c.bitor-else-in_check.ensures.members (λ check. not_both (c.in_check.ensures.1 check) c.if-in_check.false)
+returns-else-in_check c = free_lines c.args.position.now c.board-board.result c.side-side.result c.in-Some.king c.side-side.ensures.position
+    c.board-board.ensures.value c.side-side.ensures.value c.in-Some.ensures c.seen_if_pinned-straight.result c.seen_if_pinned-diagonal.result
+    c.single-else-in_check.result c.bitor.result c.bitor-else-in_check.result c.seen_if_pinned-straight.ensures c.seen_if_pinned-diagonal.ensures
+    c.single-else-in_check.ensures c.bitor.ensures.members c.bitor-else-in_check.ensures.members
+    (λ check. not_both (c.in_check.ensures.1 check) c.if-in_check.false)
 
 pub returns-in-None : goal.returns-in-None
 returns-in-None c = free_none_off c.args.position.now c.full-in-None.result c.full-in-None.ensures
 
 pub returns-then-not-attacked_alone : goal.returns-then-not-attacked_alone
-returns-then-not-attacked_alone c = free_bare c.args.position.now c.args.board.now c.side-side.result c.in-Some.king c.side-side.ensures.position c.requires c.side-side.ensures.value c.in-Some.ensures c.single.result c.single.ensures (c.attacked_alone.ensures c.if-not-attacked_alone.true)
+returns-then-not-attacked_alone c = free_bare c.args.position.now c.board-board.result c.side-side.result c.in-Some.king c.side-side.ensures.position
+    c.board-board.ensures.value c.side-side.ensures.value c.in-Some.ensures c.single.result c.single.ensures
+    (c.attacked_alone.ensures c.if-not-attacked_alone.true)

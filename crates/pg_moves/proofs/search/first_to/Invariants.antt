@@ -2,4 +2,4 @@ use Rattle.pg_moves.specs.inner.Places.{place_of, NoneFrom}
 use Rattle.pg_moves.proofs.search.first_to.Given as goal
 
 abbrev pub invariant-loop-k : goal.invariant-loop-k
-invariant-loop-k l = NoneFrom l.position (place_of l.from l.to l.number) (place_of l.from l.to l.k)
+invariant-loop-k l = NoneFrom l.position (place_of l.from l.target.to l.target.number) (place_of l.from l.target.to l.k)

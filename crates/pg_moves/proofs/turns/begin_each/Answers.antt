@@ -5,7 +5,9 @@ use Rattle.pg_moves.proofs.TurnLemmas.{all_begun, come_passed, come_end}
 use Rattle.pg_moves.proofs.turns.begin_each.Goals as goal
 
 pub returns-then-begin_any : goal.returns-then-begin_any
-returns-then-begin_any c = all_begun c.args.position.now (men_from c.args.turn.now.last) c.loop-from.left c.pop_first.new.self c.in-Some.from c.loop-from.invariant.to_come c.in-Some.ensures.taken c.in-Some.ensures.rest c.args.turn.now c.begin_any.new.turn refl (rw c.loop-from.invariant.kept at c.if-begin_any.ensures)
+returns-then-begin_any c = all_begun c.args.pins.now (men_from c.args.turn.now.last) c.loop-from.left c.pop_first.new.self c.in-Some.from
+    c.loop-from.invariant.to_come c.in-Some.ensures.taken c.in-Some.ensures.rest c.args.turn.now c.begin_any.new.turn refl
+    (rw c.loop-from.invariant.kept at c.if-begin_any.ensures)
 
 pub loop-from-smaller : goal.loop-from-smaller
 loop-from-smaller c = omega (arith, left_fewer c.loop-from.left c.pop_first.new.self c.in-Some.from c.in-Some.ensures.rest c.in-Some.ensures.taken)
@@ -14,9 +16,10 @@ pub loop-from-preserved : goal.loop-from-preserved
 unfolding IsFirstOfMan
 loop-from-preserved c = record {
   kept = c.if-begin_any.ensures.0 ∙ c.loop-from.invariant.kept;
-  to_come = come_passed c.args.position.now (men_from c.args.turn.now.last) c.loop-from.left c.pop_first.new.self c.in-Some.from c.loop-from.invariant.to_come c.in-Some.ensures.taken c.in-Some.ensures.rest c.if-begin_any.ensures.1;
+  to_come = come_passed c.args.pins.now (men_from c.args.turn.now.last) c.loop-from.left c.pop_first.new.self c.in-Some.from c.loop-from.invariant.to_come
+      c.in-Some.ensures.taken c.in-Some.ensures.rest c.if-begin_any.ensures.1;
 }
 
 pub returns : goal.returns
 unfolding IsFirstOfAll
-returns c = (c.loop-from.invariant.kept, come_end c.args.position.now (men_from c.args.turn.now.last) c.loop-from.left c.loop-from.invariant.to_come c.in_default.ensures.taken)
+returns c = (c.loop-from.invariant.kept, come_end c.args.pins.now (men_from c.args.turn.now.last) c.loop-from.left c.loop-from.invariant.to_come c.in_default.ensures.taken)

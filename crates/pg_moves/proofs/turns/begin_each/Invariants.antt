@@ -8,7 +8,7 @@ use Rattle.pg_moves.proofs.turns.begin_each.Given as goal
 abbrev pub invariant-loop-from : goal.invariant-loop-from
 invariant-loop-from l = record {
   kept : l.turn ≡ l.fn.turn;
-  to_come : AreToCome l.position (men_from l.fn.turn.last) l.left;
+  to_come : AreToCome l.pins (men_from l.fn.turn.last) l.left;
 }
 
 abbrev pub decreases-loop-from : goal.decreases-loop-from

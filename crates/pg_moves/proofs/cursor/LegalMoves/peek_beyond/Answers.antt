@@ -11,10 +11,10 @@ pub peek_known-requires-clause-to_come : goal.peek_known-requires-clause-to_come
 peek_known-requires-clause-to_come c = ready_to_come c.self.inside.position c.self.inside.turn.last c.self.inside.men c.self.inside.turn c.self.invariant.1
 
 pub peek_each-requires-clause-to_come : goal.peek_each-requires-clause-to_come
-peek_each-requires-clause-to_come c = ready_to_come c.self.inside.position c.self.inside.turn.last c.self.inside.men c.self.inside.turn c.self.invariant.1
+peek_each-requires-clause-to_come c = rw c.new.ensures (ready_to_come c.self.inside.position c.self.inside.turn.last c.self.inside.men c.self.inside.turn c.self.invariant.1)
 
 pub returns-then-are_known : goal.returns-then-are_known
 returns-then-are_known c = ahead_of c.args.self.now c.self.inside.position c.self.inside.turn.last c.self.inside.turn.last c.peek_known.result c.self.view_is refl c.peek_known.ensures
 
 pub returns-else-are_known : goal.returns-else-are_known
-returns-else-are_known c = ahead_of c.args.self.now c.self.inside.position c.self.inside.turn.last c.self.inside.turn.last c.peek_each.result c.self.view_is refl c.peek_each.ensures
+returns-else-are_known c = ahead_of c.args.self.now c.self.inside.position c.self.inside.turn.last c.self.inside.turn.last c.peek_each.result c.self.view_is refl (rw c.new.ensures at c.peek_each.ensures)
