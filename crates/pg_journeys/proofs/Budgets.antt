@@ -1,9 +1,11 @@
--- What paths may count, and what is shown of a side as said of its position. Leads to the contract of `shown_of`.
-use Rattle.std.proofs.Common.{◌≡◌, ℕ, ◌+◌, ◌<◌, ◌≤◌, Option, Some, sym, subst, arith, ◌∙◌, MatchOption}
+-- What paths may count, and what is shown of a side as said of its position. Leads to the contracts of `budgets_of`, `shown_of` and `is_dead`.
+use Rattle.std.proofs.Common.{◌≡◌, ℕ, ◌+◌, ◌<◌, ◌≤◌, inl, inr, Option, sym, subst, arith, ◌∙◌, MatchOption}
+use Rattle.std.proofs.lemmas.Bool.{cases_lt}
 use Rattle.pg_board.specs.declared.man.Color.{Color}
 use Rattle.pg_board.specs.Tally.{total}
 use Rattle.pg_board.specs.Placement.{Placement}
 use Rattle.pg_position.specs.declared.state.State.{State}
+use Rattle.pg_captures.specs.Counting.{men, any_man}
 use Rattle.pg_captures.specs.Owed.{plies_left, victims}
 use Rattle.pg_travel.specs.Origins.{charge}
 use Rattle.pg_journeys.specs.Facts.{Facts}
@@ -11,9 +13,10 @@ use Rattle.pg_journeys.specs.Journeys.{Journeys, quiet}
 use Rattle.pg_journeys.specs.Known.{known}
 use Rattle.pg_journeys.specs.Plans.{Moves, QuietMoves, IsPaid}
 use Rattle.pg_journeys.specs.inner.Sides.{facts_of}
-use Rattle.pg_journeys.specs.inner.Showing.{IsBudget, AreBudgets, IsDead, Shows}
+use Rattle.pg_journeys.specs.inner.Showing.{IsBudget, AreBudgets, IsDead, IsShownBy, Shows}
+use Rattle.pg_journeys.specs.declared.course.Course.{Course}
 use Rattle.pg_journeys.specs.declared.facts.Facts.{Facts as FactSets}
-use Rattle.pg_journeys.specs.declared.plans.Side.{Side}
+use Rattle.pg_journeys.specs.declared.side.Side.{Side}
 use Rattle.pg_journeys.specs.declared.shown.Shown.{Shown}
 
 -- who owes more captures than he has plies has no way alive
@@ -23,12 +26,9 @@ owes_too_much f d p k c less way alive =
     let h : charge way + total (λ s. quiet f c (plan.0.path s)) 64 + victims c p.board ≤ plies_left p.side c k + victims c d = plan.1 in
     omega arith
 
-some_same : (a b : ℕ) → Some a ≡ Some b → a ≡ b
-some_same a b e = cc
-
-pub budgets_of : (d : Placement) (x : Side) (k : ℕ) (p : State) (c : Color) (m q most fewest : ℕ) → x.position ≡ p → x.ground.color ≡ c → m ≡ most → q ≡ fewest → Some most ≡ Some (plies_left p.side c k) → fewest + victims c p.board ≡ plies_left p.side c k + victims c d → AreBudgets d x k m q
+pub budgets_of : (d : Placement) (x : Side) (k : ℕ) (p : State) (c : Color) (m q most fewest : ℕ) → x.position ≡ p → x.terrain.color ≡ c → m ≡ most → q ≡ fewest → most ≡ plies_left p.side c k → fewest + victims c p.board ≡ plies_left p.side c k + victims c d → AreBudgets d x k m q
 budgets_of d x k p c m q most fewest ep ec em eq all few =
-    let a : IsBudget d p k c Moves m = em ∙ some_same most (plies_left p.side c k) all in
+    let a : IsBudget d p k c Moves m = em ∙ all in
     let b : IsBudget d p k c QuietMoves q = (let e : fewest + victims c p.board ≡ plies_left p.side c k + victims c d = few in omega arith) in
     record {
       all = subst (λ (z : Color). IsBudget d x.position k z Moves m) (sym ec) (subst (λ (z : State). IsBudget d z k c Moves m) (sym ep) a);
@@ -39,6 +39,14 @@ budgets_of d x k p c m q most fewest ep ec em eq all few =
 abbrev pub IsShown : Facts → Placement → State → ℕ → Color → Option Shown → Type 0
 IsShown f d p k c o = MatchOption o (IsDead f d p k c) (λ a. Shows f d p k c a)
 
-pub shown_here : (d : Placement) (x : Side) (k : ℕ) (f : FactSets) (p : State) (c : Color) (o : Option Shown) → x.position ≡ p → x.ground.facts ≡ f → x.ground.color ≡ c → IsShown (facts_of x) d x.position k x.ground.color o → IsShown (known f) d p k c o
+pub shown_here : (d : Placement) (x : Side) (k : ℕ) (f : FactSets) (p : State) (c : Color) (o : Option Shown) → x.position ≡ p → x.terrain.facts ≡ f → x.terrain.color ≡ c → IsShown (facts_of x) d x.position k x.terrain.color o → IsShown (known f) d p k c o
 shown_here d x k f p c o ep ef ec h =
-    subst (λ (z : Color). IsShown (known f) d p k z o) ec (subst (λ (z : State). IsShown (known f) d z k x.ground.color o) ep (subst (λ (z : FactSets). IsShown (known z) d x.position k x.ground.color o) ef h))
+    subst (λ (z : Color). IsShown (known f) d p k z o) ec (subst (λ (z : State). IsShown (known f) d z k x.terrain.color o) ep (subst (λ (z : FactSets). IsShown (known z) d x.position k x.terrain.color o) ef h))
+
+-- on a course the colour has as many men as in the diagram
+pub enough_of : (x : Course) (c : Color) → men c any_man x.diagram.now ≤ men c any_man x.position.now.board
+enough_of x c = elim (cases_lt (men c any_man x.position.now.board) (men c any_man x.diagram.now)) [ inl less ↦ absurd (x.enough (c, less)) | inr more ↦ more ]
+
+-- what is shown of the same side by as many counts
+pub shown_as : (x y : Side) (m q most fewest : ℕ) (o : Option Shown) → y ≡ x → m ≡ most → q ≡ fewest → IsShownBy y m q o → IsShownBy x most fewest o
+shown_as x y m q most fewest o ex em eq h = subst (λ (z : Side). IsShownBy z most fewest o) ex (subst (λ (n : ℕ). IsShownBy y n fewest o) em (subst (λ (n : ℕ). IsShownBy y m n o) eq h))

@@ -15,7 +15,7 @@ use Rattle.pg_journeys.specs.inner.Sides.{facts_of, square_at, kind_at, IsSide, 
 use Rattle.pg_journeys.specs.inner.Deeds.{Changes, AreDeeds}
 use Rattle.pg_journeys.specs.inner.Showing.{is_quiet, IsBudget, AreBudgets, MayChange, TakesIn, FallsIn, IsWithFound, ShowsWay, lands_by, falls_by}
 use Rattle.pg_journeys.specs.declared.men.Men.{Men}
-use Rattle.pg_journeys.specs.declared.plans.Side.{Side}
+use Rattle.pg_journeys.specs.declared.side.Side.{Side}
 use Rattle.pg_journeys.specs.declared.narrowing.Deeds.{Deeds}
 use Rattle.pg_journeys.specs.declared.narrowing.Found.{Found}
 use Rattle.pg_journeys.specs.declared.shown.Shown.{Shown}
@@ -39,7 +39,7 @@ end_cases : (goals : Men) (e : ℕ) (o : Fate) → InEnd goals e o → Arrival g
 end_cases goals e (Arrives t) (low, same) = inl (ap Arrives (sym same), low)
 end_cases goals e (Falls q) h = inr (q, refl, h)
 
-module _ (d : Placement) (x : Side) (k : ℕ) (side : IsSide d x) (way : Option Wing) (n : Measure → ℕ) (budgets : (u : Measure) → IsBudget d x.position k x.ground.color u (n u)) (i : ℕ) (low : i < x.men.count) where
+module _ (d : Placement) (x : Side) (k : ℕ) (side : IsSide d x) (way : Option Wing) (n : Measure → ℕ) (budgets : (u : Measure) → IsBudget d x.position k x.terrain.color u (n u)) (i : ℕ) (low : i < x.men.count) where
   abbrev at : ℕ
   at = square_at x.men i
 
@@ -48,10 +48,10 @@ module _ (d : Placement) (x : Side) (k : ℕ) (side : IsSide d x) (way : Option 
   ChangesBy u e = Changes d x (is_quiet u) way (n u) i e
 
   abbrev Rests : Measure → ℕ → Type 0
-  Rests u t = RestsOn (facts_of x) d x.position k x.ground.color way at t u
+  Rests u t = RestsOn (facts_of x) d x.position k x.terrain.color way at t u
 
   abbrev Lives : Measure → Type 0
-  Lives u = NeverFalls (facts_of x) d x.position k x.ground.color way at u
+  Lives u = NeverFalls (facts_of x) d x.position k x.terrain.color way at u
 
   -- ---- who changes by no end stays
   rests_by : (u : Measure) (e : ℕ) → e < x.goals.count → ¬ ChangesBy u e → Rests u (square_at x.goals e)
@@ -70,8 +70,8 @@ module _ (d : Placement) (x : Side) (k : ℕ) (side : IsSide d x) (way : Option 
   -- no plan gives a man that d has not
   rests_nowhere : (t : ℕ) → ¬ ((e : ℕ) × (e < x.goals.count) × (square_at x.goals e ≡ t)) → Rests Moves t
   rests_nowhere t none g paid fate =
-      let meets : Meets (facts_of x) d x.position x.ground.color (kind_at x.men i) at (counted x.ground.color way at) (g.path at) (Arrives t) = subst (λ (o : Fate). Meets (facts_of x) d x.position x.ground.color (kind_at x.men i) at (counted x.ground.color way at) (g.path at) o) fate (g.meets (kind_at x.men i) at (side.men.listing.low i low) (side.men.kinds i low)) in
-      let there : (j : Kind) × (t < 64) × Stands d x.ground.color j t × IsPath (facts_of x) x.ground.color (kind_at x.men i) (counted x.ground.color way at) (g.path at) j t = meets in
+      let meets : Meets (facts_of x) d x.position x.terrain.color (kind_at x.men i) at (counted x.terrain.color way at) (g.path at) (Arrives t) = subst (λ (o : Fate). Meets (facts_of x) d x.position x.terrain.color (kind_at x.men i) at (counted x.terrain.color way at) (g.path at) o) fate (g.meets (kind_at x.men i) at (side.men.listing.low i low) (side.men.kinds i low)) in
+      let there : (j : Kind) × (t < 64) × Stands d x.terrain.color j t × IsPath (facts_of x) x.terrain.color (kind_at x.men i) (counted x.terrain.color way at) (g.path at) j t = meets in
       absurd (none (side.goals.listing.listed there.0 t there.1 there.2))
 
   module _ (dec : (u : Measure) (e : ℕ) → e < 17 → Dec (ChangesBy u e)) where
@@ -114,7 +114,7 @@ module _ (d : Placement) (x : Side) (k : ℕ) (side : IsSide d x) (way : Option 
     by_measure P a b Moves = a
     by_measure P a b QuietMoves = b
 
-    no_change : StaysIn (facts_of x) d x.position k x.ground.color way at → (e : ℕ) → ChangesBy Moves e → ChangesBy QuietMoves e → ⊥
+    no_change : StaysIn (facts_of x) d x.position k x.terrain.color way at → (e : ℕ) → ChangesBy Moves e → ChangesBy QuietMoves e → ⊥
     no_change stays e a b = elim (dec_less e x.goals.count) [
       | yes le ↦
           (let r : (u : Measure) × Rests u (square_at x.goals e) = stays.rests (square_at x.goals e) in
@@ -126,13 +126,13 @@ module _ (d : Placement) (x : Side) (k : ℕ) (side : IsSide d x) (way : Option 
 
     -- ---- both together
     abbrev pub Moved : Type 0
-    Moved = (counted x.ground.color way at ≢ at) ⊎ ((e : ℕ) × (e < 17) × ChangesBy Moves e × ChangesBy QuietMoves e)
+    Moved = (counted x.terrain.color way at ≢ at) ⊎ ((e : ℕ) × (e < 17) × ChangesBy Moves e × ChangesBy QuietMoves e)
 
-    pub stays_of : ¬ Moved → StaysIn (facts_of x) d x.position k x.ground.color way at
+    pub stays_of : ¬ Moved → StaysIn (facts_of x) d x.position k x.terrain.color way at
     stays_of none = record { starts = home; rests = rests_all nowhere; lives = lives_all nowhere }
       where
-        home : counted x.ground.color way at ≡ at
-        home = elim (dec_equal (counted x.ground.color way at) at) [
+        home : counted x.terrain.color way at ≡ at
+        home = elim (dec_equal (counted x.terrain.color way at) at) [
           | yes e ↦ e
           | no f ↦ absurd (none (inl f))
         ]
@@ -140,7 +140,7 @@ module _ (d : Placement) (x : Side) (k : ℕ) (side : IsSide d x) (way : Option 
         nowhere : (e : ℕ) → e < 17 → ¬ (ChangesBy Moves e × ChangesBy QuietMoves e)
         nowhere e le h = none (inr (e, le, h.0, h.1))
 
-    pub not_moved : StaysIn (facts_of x) d x.position k x.ground.color way at → ¬ Moved
+    pub not_moved : StaysIn (facts_of x) d x.position k x.terrain.color way at → ¬ Moved
     not_moved stays (inl off) = off stays.starts
     not_moved stays (inr (e, le, a, b)) = no_change stays e a b
 
@@ -149,7 +149,7 @@ limit : ℕ → ℕ → Measure → ℕ
 limit a b Moves = a
 limit a b QuietMoves = b
 
-limits : (d : Placement) (x : Side) (k a b : ℕ) → AreBudgets d x k a b → (u : Measure) → IsBudget d x.position k x.ground.color u (limit a b u)
+limits : (d : Placement) (x : Side) (k a b : ℕ) → AreBudgets d x k a b → (u : Measure) → IsBudget d x.position k x.terrain.color u (limit a b u)
 unfolding limit
 limits d x k a b h Moves = h.all
 limits d x k a b h QuietMoves = h.few
@@ -178,28 +178,28 @@ module _ (d : Placement) (x : Side) (k : ℕ) (side : IsSide d x) (way : Option 
   decided i low Moves e le = dec_like (has (get_or moves.ends i 0) e) (Changes d x false way a i e) (all.ends i e low le)
   decided i low QuietMoves e le = dec_like (has (get_or quiet.ends i 0) e) (Changes d x true way b i e) (few.ends i e low le)
 
-  moved_of : (i : ℕ) (low : i < x.men.count) → MayChange x.ground.color x.men way moves quiet i → Moved d x k side way (limit a b) (limits d x k a b budgets) i low (decided i low)
+  moved_of : (i : ℕ) (low : i < x.men.count) → MayChange x.terrain.color x.men way moves quiet i → Moved d x k side way (limit a b) (limits d x k a b budgets) i low (decided i low)
   unfolding limit
   moved_of i low (inl h) = inl h
   moved_of i low (inr (e, le, h, g)) = inr (e, le, (all.ends i e low le).0 h, (few.ends i e low le).0 g)
 
-  may_of : (i : ℕ) (low : i < x.men.count) → Moved d x k side way (limit a b) (limits d x k a b budgets) i low (decided i low) → MayChange x.ground.color x.men way moves quiet i
+  may_of : (i : ℕ) (low : i < x.men.count) → Moved d x k side way (limit a b) (limits d x k a b budgets) i low (decided i low) → MayChange x.terrain.color x.men way moves quiet i
   unfolding limit
   may_of i low (inl h) = inl h
   may_of i low (inr (e, le, h, g)) = inr (e, le, (all.ends i e low le).1 h, (few.ends i e low le).1 g)
 
   -- the men who may change
   abbrev pub Changed : ℕ → Type 0
-  Changed s = (i : ℕ) × (i < x.men.count) × (square_at x.men i ≡ s) × MayChange x.ground.color x.men way moves quiet i
+  Changed s = (i : ℕ) × (i < x.men.count) × (square_at x.men i ≡ s) × MayChange x.terrain.color x.men way moves quiet i
 
-  stays_at : (s : ℕ) → ¬ Changed s → (i : ℕ) → i < x.men.count → square_at x.men i ≡ s → StaysIn (facts_of x) d x.position k x.ground.color way s
+  stays_at : (s : ℕ) → ¬ Changed s → (i : ℕ) → i < x.men.count → square_at x.men i ≡ s → StaysIn (facts_of x) d x.position k x.terrain.color way s
   stays_at s none i low e =
-      subst (λ (y : ℕ). StaysIn (facts_of x) d x.position k x.ground.color way y) e
+      subst (λ (y : ℕ). StaysIn (facts_of x) d x.position k x.terrain.color way y) e
       (stays_of d x k side way (limit a b) (limits d x k a b budgets) i low (decided i low) (λ h. none (i, low, e, may_of i low h)))
 
-  not_changed : (s : ℕ) → StaysIn (facts_of x) d x.position k x.ground.color way s → ¬ Changed s
+  not_changed : (s : ℕ) → StaysIn (facts_of x) d x.position k x.terrain.color way s → ¬ Changed s
   not_changed s stays (i, low, e, may) =
-      not_moved d x k side way (limit a b) (limits d x k a b budgets) i low (decided i low) (subst (λ (y : ℕ). StaysIn (facts_of x) d x.position k x.ground.color way y) (sym e) stays) (moved_of i low may)
+      not_moved d x k side way (limit a b) (limits d x k a b budgets) i low (decided i low) (subst (λ (y : ℕ). StaysIn (facts_of x) d x.position k x.terrain.color way y) (sym e) stays) (moved_of i low may)
 
   -- what was found before is shown too
   pub record AreFound (found : Shown) : Type 0 where
@@ -209,10 +209,10 @@ module _ (d : Placement) (x : Side) (k : ℕ) (side : IsSide d x) (way : Option 
     pub quiet_falls : (q : ℕ) → has two.falls q ≡ true → has found.quiet_falls q ≡ true
 
   pub way_shows : (found : Shown) → AreFound found → (changed : ℕ) → IsSetOf changed Changed →
-      ShowsWay (facts_of x) d x.position k x.ground.color way found (record { changed = changed; lands = moves.lands; quiet_lands = quiet.lands; falls = moves.falls; quiet_falls = quiet.falls })
+      ShowsWay (facts_of x) d x.position k x.terrain.color way found (record { changed = changed; lands = moves.lands; quiet_lands = quiet.lands; falls = moves.falls; quiet_falls = quiet.falls })
   way_shows found are changed set = record { lands = lands; falls = falls; stays = stays }
     where
-      lands : (u : Measure) → IsWithFound (TakesIn (facts_of x) d x.position k x.ground.color way u) (lands_by found u) (elim u [ Moves ↦ moves.lands | QuietMoves ↦ quiet.lands ])
+      lands : (u : Measure) → IsWithFound (TakesIn (facts_of x) d x.position k x.terrain.color way u) (lands_by found u) (elim u [ Moves ↦ moves.lands | QuietMoves ↦ quiet.lands ])
       lands Moves q l = (
         λ h. (all.lands q l).1 (inr (lands_of d x k way Moves a q side budgets.all h)),
         λ h. elim ((all.lands q l).0 h) [ inl y ↦ inl (are.lands q y) | inr y ↦ inr (takes_of d x k way Moves a q side budgets.all y) ],
@@ -222,7 +222,7 @@ module _ (d : Placement) (x : Side) (k : ℕ) (side : IsSide d x) (way : Option 
         λ h. elim ((few.lands q l).0 h) [ inl y ↦ inl (are.quiet_lands q y) | inr y ↦ inr (takes_of d x k way QuietMoves b q side budgets.few y) ],
       )
 
-      falls : (u : Measure) → IsWithFound (FallsIn (facts_of x) d x.position k x.ground.color way u) (falls_by found u) (elim u [ Moves ↦ moves.falls | QuietMoves ↦ quiet.falls ])
+      falls : (u : Measure) → IsWithFound (FallsIn (facts_of x) d x.position k x.terrain.color way u) (falls_by found u) (elim u [ Moves ↦ moves.falls | QuietMoves ↦ quiet.falls ])
       falls Moves q l = (
         λ h. (all.falls q l).1 (inr (falls_on d x k way Moves a q side budgets.all h)),
         λ h. elim ((all.falls q l).0 h) [ inl y ↦ inl (are.falls q y) | inr y ↦ inr (falls_of d x k way Moves a q side budgets.all y) ],
@@ -232,7 +232,7 @@ module _ (d : Placement) (x : Side) (k : ℕ) (side : IsSide d x) (way : Option 
         λ h. elim ((few.falls q l).0 h) [ inl y ↦ inl (are.quiet_falls q y) | inr y ↦ inr (falls_of d x k way QuietMoves b q side budgets.few y) ],
       )
 
-      stays : (j : Kind) (s : ℕ) → s < 64 → Stands x.position.board x.ground.color j s → (has changed s ≡ false) ↔ StaysIn (facts_of x) d x.position k x.ground.color way s
+      stays : (j : Kind) (s : ℕ) → s < 64 → Stands x.position.board x.terrain.color j s → (has changed s ≡ false) ↔ StaysIn (facts_of x) d x.position k x.terrain.color way s
       stays j s l st = (
         λ h. (let at : (i : ℕ) × (i < x.men.count) × (square_at x.men i ≡ s) = side.men.listing.listed j s l st in
             stays_at s (λ c. false_not (has changed s) h ((set s l).1 c)) at.0 at.1 at.2),

@@ -27,7 +27,7 @@ use Rattle.pg_journeys.specs.lemmas.PlanTotals.{plans_are_totals}
 use Rattle.pg_journeys.specs.inner.Counting.{counts}
 use Rattle.pg_journeys.specs.inner.Sides.{facts_of, square_at, kind_at, IsSide, EndWithin, JourneysOf, IsPaidBy}
 use Rattle.pg_journeys.specs.inner.Costing.{IsCount, IsCountTo, IsFall, IsCostRow, AreCostRows, AreCostsOf, HasTotalTo, runner_of, walker_of}
-use Rattle.pg_journeys.specs.declared.plans.Side.{Side}
+use Rattle.pg_journeys.specs.declared.side.Side.{Side}
 use Rattle.pg_journeys.specs.declared.plans.Walker.{Walker}
 use Rattle.pg_journeys.specs.declared.rings.Runner.{Runner}
 
@@ -40,7 +40,7 @@ rows_next x quiet way most rows row i m e low here before = λ q l. elim (eqb_te
 ]
 
 -- who does not castle costs what he costs where none does
-pub same_row : (x : Side) (quiet : Bool) (way : Option Wing) (most : ℕ) (rows : List (List ℕ)) (i : ℕ) → i < x.men.count → counted x.ground.color way (square_at x.men i) ≡ square_at x.men i →
+pub same_row : (x : Side) (quiet : Bool) (way : Option Wing) (most : ℕ) (rows : List (List ℕ)) (i : ℕ) → i < x.men.count → counted x.terrain.color way (square_at x.men i) ≡ square_at x.men i →
     AreCostRows x quiet None most rows x.men.count → IsCostRow x most (walker_of x quiet way i) (get_or rows i []) x.men.count
 same_row x quiet way most rows i low stays are =
     subst (λ (s : ℕ). IsCostRow x most (record { square = square_at x.men i; runner = record { is_quiet = quiet; kind = kind_at x.men i; square = s } }) (get_or rows i []) x.men.count) (sym stays) (are i low)
@@ -84,20 +84,20 @@ at_most W most n w (inr (e, none)) more here = absurd (none (more here))
 
 module _ (d : Placement) (x : Side) (way : Option Wing) (quiet : Bool) (most : ℕ) (k : Costs) (side : IsSide d x) (low : most < 200) (rows : AreCostRows x quiet way most k.rows x.men.count) where
   abbrev start : ℕ → ℕ
-  start i = counted x.ground.color way (square_at x.men i)
+  start i = counted x.terrain.color way (square_at x.men i)
 
   abbrev weight : List Leg → ℕ
-  weight ls = weigh (counts (facts_of x) x.ground.color quiet) ls
+  weight ls = weigh (counts (facts_of x) x.terrain.color quiet) ls
 
   abbrev Ends : ℕ → ℕ → ℕ → Type 0
   Ends e i n = EndWithin x quiet e n (kind_at x.men i) (start i)
 
   -- what the man i comes to, he comes to as whatever man stands there
   abbrev AnyMeets : ℕ → List Leg → Fate → Type 0
-  AnyMeets i ls o = (h : Kind) → Stands x.position.board x.ground.color h (square_at x.men i) → Meets (facts_of x) d x.position x.ground.color h (square_at x.men i) (start i) ls o
+  AnyMeets i ls o = (h : Kind) → Stands x.position.board x.terrain.color h (square_at x.men i) → Meets (facts_of x) d x.position x.terrain.color h (square_at x.men i) (start i) ls o
 
-  as_any : (i : ℕ) (ls : List Leg) (o : Fate) → i < x.men.count → Meets (facts_of x) d x.position x.ground.color (kind_at x.men i) (square_at x.men i) (start i) ls o → AnyMeets i ls o
-  as_any i ls o li m h st = subst (λ (y : Kind). Meets (facts_of x) d x.position x.ground.color y (square_at x.men i) (start i) ls o) (same_kind (side.men.kinds i li) st) m
+  as_any : (i : ℕ) (ls : List Leg) (o : Fate) → i < x.men.count → Meets (facts_of x) d x.position x.terrain.color (kind_at x.men i) (square_at x.men i) (start i) ls o → AnyMeets i ls o
+  as_any i ls o li m h st = subst (λ (y : Kind). Meets (facts_of x) d x.position x.terrain.color y (square_at x.men i) (start i) ls o) (same_kind (side.men.kinds i li) st) m
 
   abbrev Attains : ℕ → ℕ → ℕ → Type 0
   Attains i j n = (o : Fate) × (ls : List Leg) × InColumn (square_at x.goals) x.goals.count j o × AnyMeets i ls o × (weight ls ≡ n)
@@ -140,14 +140,14 @@ module _ (d : Placement) (x : Side) (way : Option Wing) (quiet : Bool) (most : �
     | inr h ↦ fall i j _ li h ((rows i li j lj).falls h) some
   ]
 
-  least : (i j : ℕ) (o : Fate) (ls : List Leg) (h : Kind) → i < x.men.count → j < x.men.count → Stands x.position.board x.ground.color h (square_at x.men i) →
-      InColumn (square_at x.goals) x.goals.count j o → Meets (facts_of x) d x.position x.ground.color h (square_at x.men i) (start i) ls o →
+  least : (i j : ℕ) (o : Fate) (ls : List Leg) (h : Kind) → i < x.men.count → j < x.men.count → Stands x.position.board x.terrain.color h (square_at x.men i) →
+      InColumn (square_at x.goals) x.goals.count j o → Meets (facts_of x) d x.position x.terrain.color h (square_at x.men i) (start i) ls o →
       weight ls ≤ most → cost k i j ≤ weight ls
   unfolding cost
   least i j (Arrives t) ls h li lj st (l, e) (g, tl, stands, path) small =
-      let at_goal : Stands d x.ground.color (kind_at x.goals j) t = subst (λ (y : ℕ). Stands d x.ground.color (kind_at x.goals j) y) e (side.goals.kinds j l) in
-      let p : IsPath (facts_of x) x.ground.color (kind_at x.men i) (start i) ls (kind_at x.goals j) (square_at x.goals j) =
-      path_as (facts_of x) x.ground.color h (kind_at x.men i) (start i) ls g (kind_at x.goals j) t (square_at x.goals j) (same_kind st (side.men.kinds i li)) (same_kind stands at_goal) (sym e) path in
+      let at_goal : Stands d x.terrain.color (kind_at x.goals j) t = subst (λ (y : ℕ). Stands d x.terrain.color (kind_at x.goals j) y) e (side.goals.kinds j l) in
+      let p : IsPath (facts_of x) x.terrain.color (kind_at x.men i) (start i) ls (kind_at x.goals j) (square_at x.goals j) =
+      path_as (facts_of x) x.terrain.color h (kind_at x.men i) (start i) ls g (kind_at x.goals j) t (square_at x.goals j) (same_kind st (side.men.kinds i li)) (same_kind stands at_goal) (sym e) path in
       at_most (Ends j i) most _ (weight ls) ((rows i li j lj).comes l) (end_more x quiet j (weight ls) most (kind_at x.men i) (start i) small) (inl (l, (ls, p, omega arith)))
   least i j (Falls u) ls h li lj st past (nk, ul, lands, either) small =
       let same : h ≡ kind_at x.men i = same_kind st (side.men.kinds i li) in
@@ -155,12 +155,12 @@ module _ (d : Placement) (x : Side) (way : Option Wing) (quiet : Bool) (most : �
         | inl p ↦ omega (arith, p.1)
         | inr p ↦ elim either [
           | inl w ↦ at_most (Ends 16 i) most _ (weight ls) p.1 (end_more x quiet 16 (weight ls) most (kind_at x.men i) (start i) small)
-              (inr (refl, omega (arith, past, lj), (w.0, u, ls, ul, lands, subst (λ (y : Kind). IsPath (facts_of x) x.ground.color y (start i) ls w.0 u) same w.1, omega arith)))
+              (inr (refl, omega (arith, past, lj), (w.0, u, ls, ul, lands, subst (λ (y : Kind). IsPath (facts_of x) x.terrain.color y (start i) ls w.0 u) same w.1, omega arith)))
           | inr w ↦ absurd (p.0 u w.0 lands)
         ]
       ]
 
-  pub costs_are : AreCosts (facts_of x) d x.position x.ground.color way (counts (facts_of x) x.ground.color quiet) (square_at x.men) (square_at x.goals) x.men.count x.goals.count (cost k) most
+  pub costs_are : AreCosts (facts_of x) d x.position x.terrain.color way (counts (facts_of x) x.terrain.color quiet) (square_at x.men) (square_at x.goals) x.men.count x.goals.count (cost k) most
   costs_are = record {
     rows = side.men.listing;
     columns = side.goals.listing;
@@ -174,7 +174,7 @@ module _ (d : Placement) (x : Side) (way : Option Wing) (quiet : Bool) (most : �
 pub costs_known : (d : Placement) (x : Side) (way : Option Wing) (quiet : Bool) (most : ℕ) (k : Costs) → IsSide d x → most < 200 → k.size ≡ x.men.count → AreCostRows x quiet None most k.rows x.men.count → way ≡ None → AreCostsOf d x quiet way most k
 costs_known d x way quiet most k side low size rows none =
     subst (λ (o : Option Wing). AreCostsOf d x quiet o most k) (sym none)
-    (subst (λ (n : ℕ). AreCosts (facts_of x) d x.position x.ground.color None (counts (facts_of x) x.ground.color quiet) (square_at x.men) (square_at x.goals) n x.goals.count (cost k) most) (sym size) (costs_are d x None quiet most k side low rows))
+    (subst (λ (n : ℕ). AreCosts (facts_of x) d x.position x.terrain.color None (counts (facts_of x) x.terrain.color quiet) (square_at x.men) (square_at x.goals) n x.goals.count (cost k) most) (sym size) (costs_are d x None quiet most k side low rows))
 
 -- ---- what is paid
 -- the costs up to a lesser number
@@ -216,15 +216,15 @@ pub some_pays : (k : Costs) (o : Option ℕ) (x b most : ℕ) → b ≡ most →
 some_pays k o x b most same e h = subst (λ (y : ℕ). IsTrue (leb x b) ↔ HasTotalTo k y) same (within k o x b e h)
 
 pub charged : (d : Placement) (x : Side) (quiet : Bool) (way : Option Wing) (most : ℕ) → most < charge way → IsTrue false ↔ ((g : JourneysOf d x way) × IsPaidBy d x quiet way most g)
-charged d x quiet way most h = (λ z. absurd (cc), λ g. absurd (let l : charge way + total (λ s. weigh (counts (facts_of x) x.ground.color quiet) (g.0.path s)) 64 ≤ most = g.1 in omega arith))
+charged d x quiet way most h = (λ z. absurd (cc), λ g. absurd (let l : charge way + total (λ s. weigh (counts (facts_of x) x.terrain.color quiet) (g.0.path s)) 64 ≤ most = g.1 in omega arith))
 
 pub paid_by : (d : Placement) (x : Side) (quiet : Bool) (way : Option Wing) (most paid : ℕ) (k : Costs) (r : Bool) → paid + charge way ≡ most → AreCostsOf d x quiet way most k →
     (IsTrue r ↔ HasTotalTo k paid) → IsTrue r ↔ ((g : JourneysOf d x way) × IsPaidBy d x quiet way most g)
 paid_by d x quiet way most paid k r e costs is =
-    let both = plans_are_totals (facts_of x) d x.position x.ground.color way (counts (facts_of x) x.ground.color quiet) (square_at x.men) (square_at x.goals) k.size x.goals.count (cost k) paid
+    let both = plans_are_totals (facts_of x) d x.position x.terrain.color way (counts (facts_of x) x.terrain.color quiet) (square_at x.men) (square_at x.goals) k.size x.goals.count (cost k) paid
     (costs_to d x quiet way most paid k (omega arith) costs) in (
-      λ t. (let g = both.1 (is.0 t) in let l : total (λ s. weigh (counts (facts_of x) x.ground.color quiet) (g.0.path s)) 64 ≤ paid = g.1 in (g.0, omega arith)),
-      λ g. (let l : charge way + total (λ s. weigh (counts (facts_of x) x.ground.color quiet) (g.0.path s)) 64 ≤ most = g.1 in is.1 (both.0 (g.0, omega arith))),
+      λ t. (let g = both.1 (is.0 t) in let l : total (λ s. weigh (counts (facts_of x) x.terrain.color quiet) (g.0.path s)) 64 ≤ paid = g.1 in (g.0, omega arith)),
+      λ g. (let l : charge way + total (λ s. weigh (counts (facts_of x) x.terrain.color quiet) (g.0.path s)) 64 ≤ most = g.1 in is.1 (both.0 (g.0, omega arith))),
     )
 
 -- ---- least totals within a budget

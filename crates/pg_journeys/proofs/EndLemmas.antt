@@ -10,24 +10,24 @@ use Rattle.pg_board.specs.declared.man.Kind.{Kind}
 use Rattle.pg_board.specs.declared.man.Kind.TheVariants.{Pawn, Knight, Bishop, Rook, Queen, King}
 use Rattle.pg_board.specs.Men.{other}
 use Rattle.pg_board.specs.SquareSets.{IsSetOf}
-use Rattle.pg_board.specs.Placement.{Placement}
 use Rattle.pg_board.specs.lemmas.Decisions.{dec_kind, dec_less}
 use Rattle.pg_journeys.specs.Known.{known, landing}
 use Rattle.pg_journeys.specs.inner.Counts.{of_kind}
 use Rattle.pg_journeys.specs.inner.Levels.{BackWithin}
 use Rattle.pg_journeys.specs.inner.Rings.{AreRings, AreWithin}
-use Rattle.pg_journeys.specs.inner.Sides.{facts_of, square_at, kind_at, IsSide, IsLike, IsEnd, EndWithin, AreAims, aim_at}
+use Rattle.pg_journeys.specs.inner.Sides.{facts_of, square_at, kind_at, IsLike, IsEnd, EndWithin, AreAims, aim_at}
 use Rattle.pg_journeys.specs.inner.Costing.{InRing, IsCount}
 use Rattle.pg_journeys.specs.declared.facts.Facts.{Facts as FactSets}
 use Rattle.pg_journeys.specs.declared.ground.Ground.{Ground}
 use Rattle.pg_journeys.specs.declared.men.Men.{Men}
-use Rattle.pg_journeys.specs.declared.plans.Side.{Side}
+use Rattle.pg_journeys.specs.declared.side.Side.{Side}
 use Rattle.pg_journeys.specs.declared.rings.Rings.{Rings}
 use Rattle.pg_journeys.specs.declared.rings.Runner.{Runner}
 use Rattle.pg_journeys.proofs.CostLemmas.{path_as}
+use Rattle.pg_journeys.proofs.SideLemmas.{goals_few}
 
 -- a side goes by its own ground and its own men
-pub like_itself : (x : Side) → IsLike x x.ground x.goals
+pub like_itself : (x : Side) → IsLike x x.terrain x.goals
 like_itself x = record {
   facts = refl;
   color = refl;
@@ -61,12 +61,12 @@ module _ (x : Side) (e : ℕ) (goal : List ℕ) (one sq : ℕ) (k : Kind) (few :
   there : has (of_kind goal (kind_at x.goals e)) (square_at x.goals e) ≡ true
   there = subst (λ (n : ℕ). has n (square_at x.goals e) ≡ true) (sym (ap (of_kind goal) (sym ek) ∙ here)) ((is (square_at x.goals e) low).1 (sym es))
 
-  goal_is : (quiet : Bool) (n : ℕ) (h : Kind) (r : ℕ) → BackWithin (facts_of x) x.ground.color quiet goal n h r ↔ EndWithin x quiet e n h r
+  goal_is : (quiet : Bool) (n : ℕ) (h : Kind) (r : ℕ) → BackWithin (facts_of x) x.terrain.color quiet goal n h r ↔ EndWithin x quiet e n h r
   goal_is quiet n h r = (
     λ w. inl (
       l,
       (let q : (w.0 ≡ k) × (w.1 ≡ square_at x.goals e) = only w.0 w.1 w.3 w.4 in
-          (w.2, path_as (facts_of x) x.ground.color h h r w.2 w.0 (kind_at x.goals e) w.1 (square_at x.goals e) refl (q.0 ∙ ek) q.1 w.5, w.6)),
+          (w.2, path_as (facts_of x) x.terrain.color h h r w.2 w.0 (kind_at x.goals e) w.1 (square_at x.goals e) refl (q.0 ∙ ek) q.1 w.5, w.6)),
     ),
     λ w. elim w [
       | inl g ↦ (kind_at x.goals e, square_at x.goals e, g.1.0, low, there, g.1.1, g.1.2)
@@ -78,8 +78,8 @@ module _ (x : Side) (e : ℕ) (goal : List ℕ) (one sq : ℕ) (k : Kind) (few :
 abbrev SearchesTo : Side → ℕ → List ℕ → FactSets → Color → Type 0
 SearchesTo x e goal f c = (quiet : Bool) (n : ℕ) (h : Kind) (r : ℕ) → BackWithin (known f) c quiet goal n h r ↔ EndWithin x quiet e n h r
 
-searches_like : (x : Side) (e : ℕ) (goal : List ℕ) (f : FactSets) (c : Color) → x.ground.facts ≡ f → x.ground.color ≡ c → SearchesTo x e goal x.ground.facts x.ground.color → SearchesTo x e goal f c
-searches_like x e goal f c ef ec h = subst (λ (y : FactSets). SearchesTo x e goal y c) ef (subst (λ (y : Color). SearchesTo x e goal x.ground.facts y) ec h)
+searches_like : (x : Side) (e : ℕ) (goal : List ℕ) (f : FactSets) (c : Color) → x.terrain.facts ≡ f → x.terrain.color ≡ c → SearchesTo x e goal x.terrain.facts x.terrain.color → SearchesTo x e goal f c
+searches_like x e goal f c ef ec h = subst (λ (y : FactSets). SearchesTo x e goal y c) ef (subst (λ (y : Color). SearchesTo x e goal x.terrain.facts y) ec h)
 
 pub goal_like : (x : Side) (g : Ground) (goals : Men) (e : ℕ) (goal : List ℕ) (one sq : ℕ) (k : Kind) → IsLike x g goals → goals.count ≤ 16 → square_at goals e < 64 → e < goals.count →
     k ≡ kind_at goals e → sq ≡ square_at goals e → IsSetOf one (λ q. q ≡ sq) → of_kind goal k ≡ one → ((j : Kind) → j ≢ k → of_kind goal j ≡ 0) →
@@ -99,8 +99,8 @@ each t Rook = refl
 each t Queen = refl
 each t King = refl
 
-last_is : (x : Side) (e t : ℕ) → x.goals.count ≤ e → IsEnd x e → t ≡ landing x.ground.facts (other x.ground.color) →
-    (quiet : Bool) (n : ℕ) (h : Kind) (r : ℕ) → BackWithin (facts_of x) x.ground.color quiet (replicate 6 t) n h r ↔ EndWithin x quiet e n h r
+last_is : (x : Side) (e t : ℕ) → x.goals.count ≤ e → IsEnd x e → t ≡ landing x.terrain.facts (other x.terrain.color) →
+    (quiet : Bool) (n : ℕ) (h : Kind) (r : ℕ) → BackWithin (facts_of x) x.terrain.color quiet (replicate 6 t) n h r ↔ EndWithin x quiet e n h r
 last_is x e t past end theirs quiet n h r = (
   λ w. elim end [
     | inl l ↦ absurd (omega (arith, l, past))
@@ -116,7 +116,7 @@ pub last_like : (x : Side) (g : Ground) (goals : Men) (e t : ℕ) → IsLike x g
 last_like x g goals e t like past end theirs =
     let count : x.goals.count ≡ goals.count = like.goals.count in
     searches_like x e (replicate 6 t) g.facts g.color like.facts like.color
-    (last_is x e t (omega arith) end (theirs ∙ sym (ap (λ (f : FactSets). landing f (other g.color)) like.facts) ∙ sym (ap (λ (c : Color). landing x.ground.facts (other c)) like.color)))
+    (last_is x e t (omega arith) end (theirs ∙ sym (ap (λ (f : FactSets). landing f (other g.color)) like.facts) ∙ sym (ap (λ (c : Color). landing x.terrain.facts (other c)) like.color)))
 
 -- ---- all ends
 -- the rings of the first n ends
@@ -180,9 +180,9 @@ like_full g goals quiet aims n fall all off are x like asked =
     ]
 
 -- an end is one of seventeen
-pub end_low : (d : Placement) (x : Side) (e : ℕ) → IsSide d x → IsEnd x e → e < 17
-end_low d x e side (inl l) = (let few : x.goals.count ≤ 16 = side.goals.few in omega arith)
-end_low d x e side (inr (is, more)) = omega arith
+pub end_low : (x : Side) (e : ℕ) → IsEnd x e → e < 17
+end_low x e (inl l) = omega (arith, goals_few x)
+end_low x e (inr (is, more)) = omega arith
 
 -- whether a man is among those within a count
 pub comes_in : (x : Side) (m : Runner) (e n set : ℕ) (sets : List ℕ) (b : Bool) → set ≡ of_kind sets m.kind → AreWithin (EndWithin x m.is_quiet e) n sets → m.square < 64 → b ≡ has set m.square →

@@ -1,18 +1,18 @@
 -- What paths make of a man by his kind. Leads to the contracts of `kinds_of` and `arrival`.
-use Rattle.std.proofs.Common.{◌≡◌, ◌≢◌, ℕ, ◌<◌, ◌≤◌, ◌⊎◌, inl, inr, Bool, true, false, List, [], ◌∷◌, refl, sym, subst, ◌∙◌, arith}
+use Rattle.std.proofs.Common.{◌≡◌, ◌≢◌, ℕ, ◌<◌, ◌⊎◌, inl, inr, Bool, true, false, List, [], ◌∷◌, refl, sym, subst, ◌∙◌, arith}
 use Rattle.pg_board.specs.declared.man.Color.{Color}
 use Rattle.pg_board.specs.declared.man.Kind.{Kind}
 use Rattle.pg_board.specs.declared.man.Kind.TheVariants.{Pawn, Knight, Bishop, Rook, Queen, King}
 use Rattle.pg_board.specs.Bits.{has}
 use Rattle.pg_board.specs.Men.{number_of_kind}
-use Rattle.pg_board.specs.Placement.{Placement}
 use Rattle.pg_captures.specs.FreeSteps.{Becomes}
 use Rattle.pg_journeys.specs.Facts.{Facts}
 use Rattle.pg_journeys.specs.Journeys.{Leg, IsPath}
-use Rattle.pg_journeys.specs.inner.Sides.{facts_of, square_at, kind_at, IsSide}
+use Rattle.pg_journeys.specs.inner.Sides.{facts_of, square_at, kind_at}
 use Rattle.pg_journeys.specs.inner.Costing.{IsCountTo, MayBeIn}
-use Rattle.pg_journeys.specs.declared.plans.Side.{Side}
+use Rattle.pg_journeys.specs.declared.side.Side.{Side}
 use Rattle.pg_journeys.specs.declared.rings.Runner.{Runner}
+use Rattle.pg_journeys.proofs.SideLemmas.{goals_few}
 
 -- a man of kind k may come to be of kind j
 abbrev MayBe : Kind → Kind → Type 0
@@ -62,12 +62,12 @@ all_but_kings Queen ne = refl
 all_but_kings King ne = absurd (ne refl)
 
 -- no path counts anything where the kinds forbid it
-pub no_arrival : (d : Placement) (x : Side) (most e kinds : ℕ) (m : Runner) (may : Bool) → IsSide d x → e < x.goals.count → MayBeIn m.kind kinds →
+pub no_arrival : (x : Side) (most e kinds : ℕ) (m : Runner) (may : Bool) → e < x.goals.count → MayBeIn m.kind kinds →
     may ≡ has kinds (number_of_kind (kind_at x.goals e)) → may ≡ false → IsCountTo x most e m 255
-no_arrival d x most e kinds m may side low tells is off = inr (
+no_arrival x most e kinds m may low tells is off = inr (
   refl,
   λ w. elim w [
-    | inl g ↦ (let on : has kinds (number_of_kind (kind_at x.goals e)) ≡ true = tells (facts_of x) x.ground.color m.square (square_at x.goals e) g.1.0 (kind_at x.goals e) g.1.1 in cc)
-    | inr g ↦ (let z : e ≡ 16 = g.0 in let few : x.goals.count ≤ 16 = side.goals.few in omega arith)
+    | inl g ↦ (let on : has kinds (number_of_kind (kind_at x.goals e)) ≡ true = tells (facts_of x) x.terrain.color m.square (square_at x.goals e) g.1.0 (kind_at x.goals e) g.1.1 in cc)
+    | inr g ↦ (let z : e ≡ 16 = g.0 in omega (arith, goals_few x))
   ],
 )

@@ -1,13 +1,14 @@
 -- What is known beforehand. Leads to the contracts of `same_men`, `add_color`, `known_for` and `known_steps`.
-use Rattle.std.proofs.Common.{◌≡◌, ℕ, ◌+◌, ◌<◌, ◌≤◌, inl, inr, true, false, List, length, get_or, sym, subst, arith}
-use Rattle.std.specs.Prelude.{All}
+use Rattle.std.proofs.Common.{◌≡◌, ℕ, ◌+◌, ◌<◌, ◌≤◌, inl, inr, true, false, sym, subst, arith}
+use Rattle.std.proofs.Math.Logic.{∥∥₁_elim, ∥∥₁_map}
+use Rattle.std.specs.Coded.{le_prop}
 use Rattle.std.proofs.lemmas.Bool.{cases_lt}
 use Rattle.pg_journeys.specs.inner.Grounds.{HasSteps}
-use Rattle.pg_journeys.specs.inner.Knowing.{IsKnown}
 use Rattle.pg_journeys.specs.inner.Sides.{square_at, kind_at, AreAims, AreSameMen, IsLike}
-use Rattle.pg_journeys.specs.declared.known.Known.{Known}
+use Rattle.pg_journeys.specs.declared.known_paths.KnownPaths.{KnownPaths}
 use Rattle.pg_journeys.specs.declared.men.Men.{Men}
-use Rattle.pg_journeys.specs.declared.plans.Side.{Side}
+use Rattle.pg_journeys.specs.declared.side.Side.{Side}
+use Rattle.pg_journeys.proofs.DecidingEnds.{aims_known, steps_known}
 
 -- the first n men are the same
 pub record AreSameTo (a b : Men) (n : ℕ) : Type 0 where
@@ -29,12 +30,12 @@ same_next a b n m e here kind before = record {
 pub same_all : (a b : Men) (n : ℕ) → a.count ≡ b.count → a.count ≤ n → AreSameTo a b n → AreSameMen a b
 same_all a b n count all are = record { count = count; squares = λ i l. are.squares i (omega arith); kinds = λ i l. are.kinds i (omega arith) }
 
--- each of those that are known is right
-pub one_of : (ks : List Known) (i : ℕ) (k : Known) → All IsKnown ks → i < length ks → k ≡ get_or ks i k → IsKnown k
-one_of ks i k all low is = subst IsKnown (sym is) (all i k low)
+-- ---- what the type of known paths says
+pub known_few : (k : KnownPaths) → k.goals.count ≤ 16
+known_few k = ∥∥₁_elim k.made le_prop (λ w. w.few)
 
-pub aims_of : (ks : List Known) (i : ℕ) (k : Known) (x : Side) → All IsKnown ks → i < length ks → k ≡ get_or ks i k → IsLike x k.ground k.goals → AreAims x false k.moves × AreAims x true k.quiet
-aims_of ks i k x all low is like = (let right : IsKnown k = one_of ks i k all low is in (right.moves x like, right.quiet x like))
+pub known_aims : (k : KnownPaths) (x : Side) → IsLike x k.terrain k.goals → AreAims x false k.moves × AreAims x true k.quiet
+known_aims k x like = (aims_known x false k.moves (∥∥₁_map k.made (λ w. w.moves x like)), aims_known x true k.quiet (∥∥₁_map k.made (λ w. w.quiet x like)))
 
-pub steps_of : (ks : List Known) (i : ℕ) (k : Known) (still : ℕ) → All IsKnown ks → i < length ks → k ≡ get_or ks i k → k.ground.facts.still ≡ still → HasSteps still k.ground.table
-steps_of ks i k still all low is same = subst (λ (n : ℕ). HasSteps n k.ground.table) same (one_of ks i k all low is).steps
+pub known_table : (k : KnownPaths) (still : ℕ) → k.terrain.facts.still ≡ still → HasSteps still k.terrain.table
+known_table k still same = subst (λ (n : ℕ). HasSteps n k.terrain.table) same (steps_known k.terrain.facts.still k.terrain.table (∥∥₁_map k.made (λ w. w.steps)))

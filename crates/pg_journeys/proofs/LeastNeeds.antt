@@ -24,16 +24,16 @@ use Rattle.pg_journeys.specs.inner.Counting.{counts}
 use Rattle.pg_journeys.specs.inner.Costing.{AreCostsOf}
 use Rattle.pg_journeys.specs.inner.Needing.{counted_with, PayInWay, PayInSome}
 use Rattle.pg_journeys.specs.inner.Showing.{is_quiet}
-use Rattle.pg_journeys.specs.inner.Sides.{facts_of, square_at, JourneysOf, IsPaidBy}
+use Rattle.pg_journeys.specs.inner.Sides.{facts_of, square_at, IsSide, JourneysOf, IsPaidBy}
 use Rattle.pg_journeys.specs.declared.facts.Facts.{Facts as FactSets}
-use Rattle.pg_journeys.specs.declared.plans.Side.{Side}
+use Rattle.pg_journeys.specs.declared.side.Side.{Side}
 use Rattle.pg_journeys.proofs.CostLemmas.{costs_to}
 use Rattle.pg_journeys.proofs.Paying.{all_counted, few_counted}
 
 -- ---- one way
 module _ (d : Placement) (x : Side) (quiet : Bool) (way : Option Wing) (k : Costs) (costs : AreCostsOf d x quiet way 199 k) where
   abbrev w : Leg → ℕ
-  w = counts (facts_of x) x.ground.color quiet
+  w = counts (facts_of x) x.terrain.color quiet
 
   abbrev Total : ℕ → Type 0
   Total = IsTotal (cost k) (Below k.size) k.size
@@ -42,7 +42,7 @@ module _ (d : Placement) (x : Side) (quiet : Bool) (way : Option Wing) (k : Cost
   to_total : (n : ℕ) → n ≤ 199 → (g : JourneysOf d x way) → IsPaidBy d x quiet way n g → (t : ℕ) × Total t × (t + charge way ≤ n)
   to_total n low g paid =
       let all : charge way + total (λ s. weigh w (g.path s)) 64 ≤ n = paid in
-      let t = (plans_are_totals (facts_of x) d x.position x.ground.color way w (square_at x.men) (square_at x.goals) k.size x.goals.count (cost k) (total (λ s. weigh w (g.path s)) 64)
+      let t = (plans_are_totals (facts_of x) d x.position x.terrain.color way w (square_at x.men) (square_at x.goals) k.size x.goals.count (cost k) (total (λ s. weigh w (g.path s)) 64)
       (costs_to d x quiet way 199 (total (λ s. weigh w (g.path s)) 64) k (omega arith) costs)).0 (g, omega arith) in
       let small : sum_of (cost k) t.0 k.size ≤ total (λ s. weigh w (g.path s)) 64 = t.2 in
       (sum_of (cost k) t.0 k.size, (t.0, t.1, refl), omega arith)
@@ -51,12 +51,12 @@ module _ (d : Placement) (x : Side) (quiet : Bool) (way : Option Wing) (k : Cost
   to_plan : (t : ℕ) → Total t → t + charge way ≤ 199 → (g : JourneysOf d x way) × IsPaidBy d x quiet way (t + charge way) g
   to_plan t is low =
       let same : t ≡ sum_of (cost k) is.0 k.size = is.2 in
-      let g = (plans_are_totals (facts_of x) d x.position x.ground.color way w (square_at x.men) (square_at x.goals) k.size x.goals.count (cost k) t
+      let g = (plans_are_totals (facts_of x) d x.position x.terrain.color way w (square_at x.men) (square_at x.goals) k.size x.goals.count (cost k) t
       (costs_to d x quiet way 199 t k (omega arith) costs)).1 (is.0, is.1, omega arith) in
       let small : total (λ s. weigh w (g.0.path s)) 64 ≤ t = g.1 in
       (g.0, omega arith)
 
-  within : (t : ℕ) → IsLeastTotal k (Some t) → IsWayUnder (facts_of x) x.position x.ground.color way → t + charge way ≤ 199 → IsLeast (PayInWay d x quiet way) (Some (t + charge way))
+  within : (t : ℕ) → IsLeastTotal k (Some t) → IsWayUnder (facts_of x) x.position x.terrain.color way → t + charge way ≤ 199 → IsLeast (PayInWay d x quiet way) (Some (t + charge way))
   within t h is_open low =
       let plan = to_plan t (some_holds Total t h) low in
       least_some (PayInWay d x quiet way) (t + charge way) (low, is_open, plan.0, plan.1)
@@ -74,7 +74,7 @@ module _ (d : Placement) (x : Side) (quiet : Bool) (way : Option Wing) (k : Cost
       let u : n ≤ 199 = pays.0 in
       omega arith))
 
-  pub least_way : (o : Option ℕ) → IsWayUnder (facts_of x) x.position x.ground.color way → IsLeastTotal k o → IsLeast (PayInWay d x quiet way) (counted_with o (charge way))
+  pub least_way : (o : Option ℕ) → IsWayUnder (facts_of x) x.position x.terrain.color way → IsLeastTotal k o → IsLeast (PayInWay d x quiet way) (counted_with o (charge way))
   unfolding counted_with
   least_way None is_open h = least_none (PayInWay d x quiet way) (λ n pays. (let s = to_total n pays.0 pays.2 pays.3 in none_holds Total h s.0 s.1))
   least_way (Some t) is_open h = elim (leb_tells (t + charge way) 199) [
@@ -83,7 +83,7 @@ module _ (d : Placement) (x : Side) (quiet : Bool) (way : Option Wing) (k : Cost
   ]
 
 -- no plan of a way that is not open
-pub least_closed : (d : Placement) (x : Side) (quiet : Bool) (way : Option Wing) (r : Bool) → IsTrue r ↔ IsWayUnder (facts_of x) x.position x.ground.color way → r ≡ false → IsLeast (PayInWay d x quiet way) None
+pub least_closed : (d : Placement) (x : Side) (quiet : Bool) (way : Option Wing) (r : Bool) → IsTrue r ↔ IsWayUnder (facts_of x) x.position x.terrain.color way → r ≡ false → IsLeast (PayInWay d x quiet way) None
 least_closed d x quiet way r is off = least_none (PayInWay d x quiet way) (λ n pays. (let on : r ≡ true = is.1 pays.1 in cc))
 
 -- ---- all ways
@@ -108,22 +108,27 @@ counted_costs : (f : Facts) (c : Color) (u : Measure) (paths : ℕ → List Leg)
 counted_costs f c Moves paths = all_counted f c paths
 counted_costs f c QuietMoves paths = few_counted f c paths
 
-to_need : (d : Placement) (x : Side) (u : Measure) (n : ℕ) → PayInSome d x (is_quiet u) n → (n ≤ 199) × AreEnough (facts_of x) d x.position x.ground.color u n
+to_need : (d : Placement) (x : Side) (u : Measure) (n : ℕ) → PayInSome d x (is_quiet u) n → (n ≤ 199) × AreEnough (facts_of x) d x.position x.terrain.color u n
 to_need d x u n (way, (low, is_open, g, paid)) =
-    let same : total (λ s. weigh (counts (facts_of x) x.ground.color (is_quiet u)) (g.path s)) 64 ≡ total (λ s. path_cost (facts_of x) x.ground.color u (g.path s)) 64 = counted_costs (facts_of x) x.ground.color u g.path in
-    let all : charge way + total (λ s. weigh (counts (facts_of x) x.ground.color (is_quiet u)) (g.path s)) 64 ≤ n = paid in
+    let same : total (λ s. weigh (counts (facts_of x) x.terrain.color (is_quiet u)) (g.path s)) 64 ≡ total (λ s. path_cost (facts_of x) x.terrain.color u (g.path s)) 64 = counted_costs (facts_of x) x.terrain.color u g.path in
+    let all : charge way + total (λ s. weigh (counts (facts_of x) x.terrain.color (is_quiet u)) (g.path s)) 64 ≤ n = paid in
     (low, (way, is_open, g, omega arith))
 
-of_need : (d : Placement) (x : Side) (u : Measure) (n : ℕ) → (n ≤ 199) × AreEnough (facts_of x) d x.position x.ground.color u n → PayInSome d x (is_quiet u) n
+of_need : (d : Placement) (x : Side) (u : Measure) (n : ℕ) → (n ≤ 199) × AreEnough (facts_of x) d x.position x.terrain.color u n → PayInSome d x (is_quiet u) n
 of_need d x u n (low, (way, is_open, g, enough)) =
-    let same : total (λ s. weigh (counts (facts_of x) x.ground.color (is_quiet u)) (g.path s)) 64 ≡ total (λ s. path_cost (facts_of x) x.ground.color u (g.path s)) 64 = counted_costs (facts_of x) x.ground.color u g.path in
-    let all : charge way + total (λ s. path_cost (facts_of x) x.ground.color u (g.path s)) 64 ≤ n = enough in
+    let same : total (λ s. weigh (counts (facts_of x) x.terrain.color (is_quiet u)) (g.path s)) 64 ≡ total (λ s. path_cost (facts_of x) x.terrain.color u (g.path s)) 64 = counted_costs (facts_of x) x.terrain.color u g.path in
+    let all : charge way + total (λ s. path_cost (facts_of x) x.terrain.color u (g.path s)) 64 ≤ n = enough in
     (way, (low, is_open, g, omega arith))
 
-need_of_side : (d : Placement) (x : Side) (u : Measure) (o : Option ℕ) → IsLeast (PayInSome d x (is_quiet u)) o → IsLeastNeed 199 (facts_of x) d x.position x.ground.color u o
+need_of_side : (d : Placement) (x : Side) (u : Measure) (o : Option ℕ) → IsLeast (PayInSome d x (is_quiet u)) o → IsLeastNeed 199 (facts_of x) d x.position x.terrain.color u o
 need_of_side d x u o h =
-    least_as (PayInSome d x (is_quiet u)) (λ n. (n ≤ 199) × AreEnough (facts_of x) d x.position x.ground.color u n) o (λ n pays. to_need d x u n pays) (λ n need. of_need d x u n need) h
+    least_as (PayInSome d x (is_quiet u)) (λ n. (n ≤ 199) × AreEnough (facts_of x) d x.position x.terrain.color u n) o (λ n pays. to_need d x u n pays) (λ n need. of_need d x u n need) h
 
-pub need_here : (d : Placement) (x : Side) (f : FactSets) (p : State) (c : Color) (u : Measure) (o : Option ℕ) → x.position ≡ p → x.ground.facts ≡ f → x.ground.color ≡ c → IsLeast (PayInSome d x (is_quiet u)) o → IsLeastNeed 199 (known f) d p c u o
+pub need_here : (d : Placement) (x : Side) (f : FactSets) (p : State) (c : Color) (u : Measure) (o : Option ℕ) → x.position ≡ p → x.terrain.facts ≡ f → x.terrain.color ≡ c → IsLeast (PayInSome d x (is_quiet u)) o → IsLeastNeed 199 (known f) d p c u o
 need_here d x f p c u o ep ef ec h =
-    subst (λ (z : Color). IsLeastNeed 199 (known f) d p z u o) ec (subst (λ (z : State). IsLeastNeed 199 (known f) d z x.ground.color u o) ep (subst (λ (z : FactSets). IsLeastNeed 199 (known z) d x.position x.ground.color u o) ef (need_of_side d x u o h)))
+    subst (λ (z : Color). IsLeastNeed 199 (known f) d p z u o) ec (subst (λ (z : State). IsLeastNeed 199 (known f) d z x.terrain.color u o) ep (subst (λ (z : FactSets). IsLeastNeed 199 (known z) d x.position x.terrain.color u o) ef (need_of_side d x u o h)))
+
+-- what is told of a side is told of the same side
+pub least_for : (x y : Side) (p q : Bool) (way : Option Wing) (o : Option ℕ) → y ≡ x → q ≡ p → ((d : Placement) → IsSide d y → IsLeast (PayInWay d y q way) o) → (d : Placement) → IsSide d x → IsLeast (PayInWay d x p way) o
+least_for x y p q way o same measure h =
+    subst (λ (z : Side). (d : Placement) → IsSide d z → IsLeast (PayInWay d z p way) o) same (subst (λ (b : Bool). (d : Placement) → IsSide d y → IsLeast (PayInWay d y b way) o) measure h)

@@ -11,6 +11,9 @@ mod PathsInTwo
 mod NarrowedSteps
 mod NarrowedPlans
 mod NarrowedDeeds
+mod SideLemmas
+mod DecidingEnds
+mod MeasuredLemmas
 mod Paying
 mod Changing
 mod OneMeasure

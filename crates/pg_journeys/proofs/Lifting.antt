@@ -21,8 +21,8 @@ use Rattle.pg_journeys.specs.inner.Showing.{IsDead, Shows}
 use Rattle.pg_journeys.specs.declared.ground.Ground.{Ground}
 use Rattle.pg_journeys.specs.declared.men.Men.{Men}
 use Rattle.pg_journeys.specs.declared.shown.Shown.{Shown}
-use Rattle.pg_journeys.specs.inner.Sides.{AreMen, IsSide}
-use Rattle.pg_journeys.specs.declared.plans.Side.{Side}
+use Rattle.pg_journeys.specs.inner.Sides.{AreMen, AreParts, IsSide}
+use Rattle.pg_journeys.specs.declared.side.Side.{Side}
 use Rattle.pg_journeys.proofs.FrontLemmas.{on_or_off}
 use Rattle.pg_journeys.proofs.Budgets.{IsShown}
 use Rattle.pg_journeys.proofs.RestingPlans.{dead_same}
@@ -82,10 +82,10 @@ differing_here b d x y set ex ey is = subst (λ (u : Placement). (q : ℕ) → q
 
 -- ---- a side
 pub side_made : (d b : Placement) (x p : State) (z : ℕ) (g : Ground) (c : Color) (m n : Men) → x ≡ lifted_from p z → PawnsClause x.board → IsGround g → g.color ≡ c → AreMen x.board c m → b ≡ d → AreMen (lifted b z) c n →
-    m.count ≡ men c any_man x.board → n.count ≡ men c any_man (lifted b z) → men c any_man (lifted d z) ≤ men c any_man (lifted p.board z) → IsSide (lifted d z) (record { position = x; ground = g; men = m; goals = n })
+    m.count ≡ men c any_man x.board → n.count ≡ men c any_man (lifted b z) → men c any_man (lifted d z) ≤ men c any_man (lifted p.board z) → AreParts (lifted d z) x g m n
 side_made d b x p z g c m n seen pawns sound color own same theirs count number room = record {
   pawns = pawns;
-  ground = sound;
+  terrain = sound;
   men = subst (λ (i : Color). AreMen x.board i m) (sym color) own;
   goals = subst (λ (i : Color). AreMen (lifted d z) i n) (sym color) (subst (λ (y : Placement). AreMen (lifted y z) c n) same theirs);
   room = (

@@ -23,12 +23,13 @@ use Rattle.pg_captures.specs.Owed.{plies_left, victims}
 use Rattle.pg_journeys.specs.Journeys.{HasPassed}
 use Rattle.pg_journeys.specs.Known.{landing}
 use Rattle.pg_journeys.specs.inner.Grounds.{HasSteps}
-use Rattle.pg_journeys.specs.inner.Remembering.{AreAlike, AreSteps, IsAnswer, IsRemembered}
+use Rattle.pg_journeys.specs.inner.Remembering.{AreAlike, IsAnswer, IsRemembered}
 use Rattle.pg_journeys.specs.declared.facts.Facts.{Facts as FactSets}
 use Rattle.pg_journeys.specs.declared.memory.Case.{Case}
 use Rattle.pg_journeys.specs.declared.memory.Remembered.{Remembered}
-use Rattle.pg_journeys.specs.declared.memory.Steps.{Steps}
+use Rattle.pg_journeys.specs.declared.steps.Steps.{Steps}
 use Rattle.pg_journeys.proofs.AlikeCases.{same_answer}
+use Rattle.pg_journeys.proofs.DecidingEnds.{steps_known}
 use Rattle.pg_journeys.proofs.FrontLemmas.{on_or_off, not_both}
 
 -- ---- the same men
@@ -104,16 +105,16 @@ pub recalled : (d : Placement) (rs : List Remembered) (i : ℕ) (r t : Remembere
 recalled d rs i r t b all low first second h =
     subst (λ (x : Remembered). IsAnswer d b x.shown) (first ∙ get_or_default rs i r t low ∙ sym second) (same_answer d r.case b r.shown h.1 (subst (λ (x : Remembered). IsRemembered d x) (sym first) (all i r low) h.0))
 
-pub steps_kept : (ts : List Steps) (i : ℕ) (r t : Steps) (still : ℕ) → All AreSteps ts → i < length ts → t ≡ get_or ts i t → (get_or ts i r).still ≡ still → HasSteps still t.table
-steps_kept ts i r t still all low second same =
-    subst (λ (x : Steps). HasSteps still x.table) (get_or_default ts i r t low ∙ sym second) (subst (λ (n : ℕ). HasSteps n (get_or ts i r).table) same (all i r low))
+pub table_is : (s : Steps) (still : ℕ) → s.still ≡ still → HasSteps still s.table
+table_is s still same = subst (λ (n : ℕ). HasSteps n s.table) same (steps_known s.still s.table s.made)
+
+pub steps_kept : (ts : List Steps) (i : ℕ) (r t : Steps) (still : ℕ) → i < length ts → t ≡ get_or ts i t → (get_or ts i r).still ≡ still → HasSteps still t.table
+steps_kept ts i r t still low second same =
+    table_is t still (ap (λ (x : Steps). x.still) (second ∙ sym (get_or_default ts i r t low)) ∙ same)
 
 pub all_untold : (rs : List Remembered) (n : ℕ) (r : Remembered) → rs ≡ replicate n r → r.is_told ≡ false → (d : Placement) → All (IsRemembered d) rs
 all_untold rs n r e none d =
     subst (λ (xs : List Remembered). All (λ (x : Remembered). IsRemembered d x) xs) (sym e) (All-replicate (λ (x : Remembered). IsRemembered d x) n r (λ told. absurd (not_both r.is_told told none)))
-
-pub all_open : (items : List Steps) (n : ℕ) (s : Steps) → items ≡ replicate n s → AreSteps s → All AreSteps items
-all_open items n s e h = subst (λ (xs : List Steps). All AreSteps xs) (sym e) (All-replicate AreSteps n s h)
 
 -- ---- what a memory lends, and what it takes back
 pub same_diagram : (d e : Placement) (differ : Bool) → differ ≡ not (placement_eq d e) → differ ≡ false → d ≡ e
@@ -123,11 +124,5 @@ pub lent_cases : (d e : Placement) → d ≡ e → (lent items : List Remembered
 lent_cases d e same lent items is all =
     subst (λ (x : Placement). All (λ (r : Remembered). IsRemembered x r) lent) same (All-same (λ (r : Remembered). IsRemembered d r) lent items is all)
 
-pub lent_steps : (lent items : List Steps) → lent ≡ items → All AreSteps items → All AreSteps lent
-lent_steps lent items is all = All-same AreSteps lent items is all
-
 pub kept_cases : {Z : Type 0} (d e : Placement) → d ≡ e → (room : Vec Remembered Z) (items : List Remembered) → length items ≡ room.len → All (IsRemembered e) items → All (IsRemembered d) (with_items room items).items
 kept_cases d e same room items fits all = lent_cases e d (sym same) (with_items room items).items items (with_items_is room items fits) all
-
-pub kept_steps : {Z : Type 0} (room : Vec Steps Z) (items : List Steps) → length items ≡ room.len → All AreSteps items → All AreSteps (with_items room items).items
-kept_steps room items fits all = lent_steps (with_items room items).items items (with_items_is room items fits) all

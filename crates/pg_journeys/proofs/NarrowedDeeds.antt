@@ -1,5 +1,5 @@
 -- What the loop over the men keeps: what the plans have of the men so far.
-use Rattle.std.proofs.Common.{◌≡◌, ◌≢◌, ℕ, ◌+◌, ◌<◌, ◌≤◌, ◌⊎◌, inl, inr, ◌↔◌, Option, Bool, true, false, get_or, sym, subst, arith, List, [], length}
+use Rattle.std.proofs.Common.{◌≡◌, ◌≢◌, ℕ, ◌+◌, ◌<◌, ◌≤◌, ◌⊎◌, inl, inr, ◌↔◌, Option, Bool, true, false, get_or, sym, subst, arith, List, [], length, refl}
 use Rattle.std.proofs.Math.ListN.{set}
 use Rattle.std.proofs.lemmas.Bool.{cases_lt}
 use Rattle.std.proofs.lemmas.List.{get_or-set_same, get_or-set_other}
@@ -8,26 +8,47 @@ use Rattle.pg_board.specs.Men.{other}
 use Rattle.pg_board.specs.Placement.{Placement}
 use Rattle.pg_board.specs.SquareSets.{IsSetOf}
 use Rattle.pg_position.specs.declared.rights.Wing.{Wing}
-use Rattle.pg_journeys.specs.declared.plans.Side.{Side}
+use Rattle.pg_journeys.specs.declared.side.Side.{Side}
 use Rattle.pg_journeys.specs.declared.plans.Walker.{Walker}
 use Rattle.pg_journeys.specs.Known.{landing}
 use Rattle.pg_journeys.specs.inner.Sides.{IsSide, AreRooms}
 use Rattle.pg_journeys.specs.inner.Deeds.{Lands, FallsOn, Changes}
 use Rattle.pg_journeys.specs.inner.Narrowed.{AreEnds, TakesToSome, FallsBy, ChangesBy, IsFull}
 use Rattle.pg_journeys.specs.inner.Costing.{walker_of}
+use Rattle.pg_journeys.specs.inner.Showing.{HasRooms}
+use Rattle.std.proofs.Math.Logic.{∥∥₁_map}
+use Rattle.pg_board.specs.lemmas.Decisions.{dec_and, dec_less}
+use Rattle.pg_journeys.proofs.SideLemmas.{decided, dec_end}
 use Rattle.pg_journeys.proofs.SiftedSets.{IsJoined, join_next, join_none, join_full}
 use Rattle.pg_journeys.proofs.NarrowedPlans.{LandsOf, FallsOf, IsAsked, ends_are, lands_known, falls_known, lands_found, lands_back, falls_found, falls_back, changes_found, changes_back, lands_change, falls_change}
 
 -- the widest room is low, as each room is
-pub wide_low : (d : Placement) (x : Side) (quiet : Bool) (way : Option Wing) (most : ℕ) (rooms : List (List ℕ)) (i wide : ℕ) → AreRooms d x quiet way most rooms → i < x.men.count → most < 200 → ((n : ℕ) → ((e : ℕ) → e < 17 → get_or (get_or rooms i []) e 0 < 255 → get_or (get_or rooms i []) e 0 ≤ n) → wide ≤ n) → wide < 200
+wide_low : (d : Placement) (x : Side) (quiet : Bool) (way : Option Wing) (most : ℕ) (rooms : List (List ℕ)) (i wide : ℕ) → AreRooms d x quiet way most rooms → i < x.men.count → most < 200 → ((n : ℕ) → ((e : ℕ) → e < 17 → get_or (get_or rooms i []) e 0 < 255 → get_or (get_or rooms i []) e 0 ≤ n) → wide ≤ n) → wide < 200
 wide_low d x quiet way most rooms i wide roomed low small widest = let h : wide ≤ most = widest most (λ e le some. roomed.small i e low le some) in omega arith
 
 -- what is asked of a man, by the functions' contracts
 pub asked_of : (d : Placement) (x : Side) (quiet : Bool) (way : Option Wing) (most : ℕ) (rooms : List (List ℕ)) (i : ℕ) → IsSide d x → AreRooms d x quiet way most rooms → most < 200 → i < x.men.count → IsAsked d x quiet way most rooms i
 asked_of d x quiet way most rooms i side roomed small low = record { side = side; roomed = roomed; small = small; low = low }
 
-pub ends_here : (d : Placement) (x : Side) (quiet : Bool) (way : Option Wing) (most : ℕ) (rooms : List (List ℕ)) (i : ℕ) → IsSide d x → AreRooms d x quiet way most rooms → most < 200 → i < x.men.count → AreEnds x (get_or rooms i [])
+ends_here : (d : Placement) (x : Side) (quiet : Bool) (way : Option Wing) (most : ℕ) (rooms : List (List ℕ)) (i : ℕ) → IsSide d x → AreRooms d x quiet way most rooms → most < 200 → i < x.men.count → AreEnds x (get_or rooms i [])
 ends_here d x quiet way most rooms i side roomed small low = ends_are d x quiet way most rooms i (asked_of d x quiet way most rooms i side roomed small low)
+
+-- the rooms are those on the way to each diagram whose side it is
+abbrev AreRoomsFor : Side → Bool → Option Wing → ℕ → List (List ℕ) → Type 0
+AreRoomsFor x quiet way most rooms = (d : Placement) → IsSide d x → AreRooms d x quiet way most rooms
+
+pub ends_known : (x : Side) (quiet : Bool) (way : Option Wing) (most : ℕ) (rooms : List (List ℕ)) (i : ℕ) → AreRoomsFor x quiet way most rooms → most < 200 → i < x.men.count → AreEnds x (get_or rooms i [])
+ends_known x quiet way most rooms i roomed small low e le some =
+    decided (dec_and (dec_less _ 200) (dec_end x e)) (∥∥₁_map x.made (λ w. ends_here w.0 x quiet way most rooms i w.1 (roomed w.0 w.1) small low e le some))
+
+pub fall_low : (x : Side) (quiet : Bool) (way : Option Wing) (most : ℕ) (rooms : List (List ℕ)) (i : ℕ) → HasRooms x quiet way most rooms → most < 200 → i < x.men.count →
+    get_or (get_or rooms i []) 16 0 < 255 → get_or (get_or rooms i []) 16 0 < 200
+fall_low x quiet way most rooms i roomed small low some = (ends_known x quiet way most rooms i (λ d side. (roomed d quiet side (inl refl)).0) small low 16 (omega arith) some).0
+
+pub wide_known : (x : Side) (quiet : Bool) (way : Option Wing) (most : ℕ) (rooms : List (List ℕ)) (i wide : ℕ) → AreRoomsFor x quiet way most rooms → i < x.men.count → most < 200 →
+    ((n : ℕ) → ((e : ℕ) → e < 17 → get_or (get_or rooms i []) e 0 < 255 → get_or (get_or rooms i []) e 0 ≤ n) → wide ≤ n) → wide < 200
+wide_known x quiet way most rooms i wide roomed low small widest =
+    decided (dec_less wide 200) (∥∥₁_map x.made (λ w. wide_low w.0 x quiet way most rooms i wide (roomed w.0 w.1) low small widest))
 
 module _ (d : Placement) (x : Side) (quiet : Bool) (way : Option Wing) (most : ℕ) (rooms : List (List ℕ)) (i : ℕ) (asked : IsAsked d x quiet way most rooms i) (man : Walker) (is : man ≡ walker_of x quiet way i) where
   pub lands_next : (old all more : ℕ) → IsSetOf more (λ q. (has all q ≡ true) ⊎ TakesToSome x man.runner (get_or rooms i []) q) → IsJoined (LandsOf d x quiet way most) old i all → IsJoined (LandsOf d x quiet way most) old (i + 1) more
@@ -59,14 +80,14 @@ module _ (d : Placement) (x : Side) (quiet : Bool) (way : Option Wing) (most : �
       cc
 
   -- where nothing new may be found, what was found stays
-  pub lands_stay : (v : ℕ) → AreChanges v → (old all : ℕ) → (v ≡ 0) ⊎ IsFull (landing x.ground.facts x.ground.color) all → IsJoined (LandsOf d x quiet way most) old i all → IsJoined (LandsOf d x quiet way most) old (i + 1) all
+  pub lands_stay : (v : ℕ) → AreChanges v → (old all : ℕ) → (v ≡ 0) ⊎ IsFull (landing x.terrain.facts x.terrain.color) all → IsJoined (LandsOf d x quiet way most) old i all → IsJoined (LandsOf d x quiet way most) old (i + 1) all
   lands_stay v made old all (inl none) h = join_none (LandsOf d x quiet way most) old i all (λ q t. no_change v made none (lands_change d x quiet way most rooms i asked q t)) h
   lands_stay v made old all (inr full) h = join_full (LandsOf d x quiet way most) old i all (λ q l t. full q l (lands_known d x quiet way most rooms i asked q l t)) h
 
-  pub falls_stay : (v : ℕ) → AreChanges v → (old all : ℕ) → (get_or (get_or rooms i []) 16 0 < 255 → (v ≡ 0) ⊎ IsFull (landing x.ground.facts (other x.ground.color)) all) → IsJoined (FallsOf d x quiet way most) old i all → IsJoined (FallsOf d x quiet way most) old (i + 1) all
+  pub falls_stay : (v : ℕ) → AreChanges v → (old all : ℕ) → (get_or (get_or rooms i []) 16 0 < 255 → (v ≡ 0) ⊎ IsFull (landing x.terrain.facts (other x.terrain.color)) all) → IsJoined (FallsOf d x quiet way most) old i all → IsJoined (FallsOf d x quiet way most) old (i + 1) all
   falls_stay v made old all full h = join_full (FallsOf d x quiet way most) old i all
       (λ q l t.
-      let w : (get_or (get_or rooms i []) 16 0 < 255) × (has (landing x.ground.facts (other x.ground.color)) q ≡ true) = falls_known d x quiet way most rooms i asked q l t in
+      let w : (get_or (get_or rooms i []) 16 0 < 255) × (has (landing x.terrain.facts (other x.terrain.color)) q ≡ true) = falls_known d x quiet way most rooms i asked q l t in
       elim (full w.0) [
         | inl none ↦ absurd (no_change v made none (falls_change d x quiet way most rooms i asked q t))
         | inr there ↦ there q l w.1

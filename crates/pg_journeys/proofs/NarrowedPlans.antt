@@ -25,7 +25,7 @@ use Rattle.pg_journeys.specs.lemmas.Turns.{leg}
 use Rattle.pg_journeys.specs.lemmas.Takings.{ahead_may_not}
 use Rattle.pg_journeys.specs.lemmas.DecidingPaths.{weigh}
 use Rattle.pg_journeys.specs.lemmas.ColumnsOfPlans.{HasColumns, columns_of_plan}
-use Rattle.pg_journeys.specs.declared.plans.Side.{Side}
+use Rattle.pg_journeys.specs.declared.side.Side.{Side}
 use Rattle.pg_journeys.specs.declared.rings.Runner.{Runner}
 use Rattle.pg_journeys.specs.inner.Counting.{counts, ComesTaking}
 use Rattle.pg_journeys.specs.inner.Costing.{runner_of, walker_of}
@@ -75,7 +75,7 @@ step_counts f c quiet l k r ne e = ap (λ (b : Bool). cond (quiet && b) 0 1) (pi
 -- some plan has a step of the man i to q that may be a capture
 abbrev pub LandsOf : Placement → Side → Bool → Option Wing → ℕ → ℕ → ℕ → Type 0
 LandsOf d x quiet way most i q =
-    (g : JourneysOf d x way) × IsPaidBy d x quiet way most g × HasTake (facts_of x) x.ground.color q (g.path (square_at x.men i))
+    (g : JourneysOf d x way) × IsPaidBy d x quiet way most g × HasTake (facts_of x) x.terrain.color q (g.path (square_at x.men i))
 
 -- some plan has him captured on q
 abbrev pub FallsOf : Placement → Side → Bool → Option Wing → ℕ → ℕ → ℕ → Type 0
@@ -110,13 +110,13 @@ module _ (d : Placement) (x : Side) (quiet : Bool) (way : Option Wing) (most : �
   room e = get_or (get_or rooms i []) e 0
 
   abbrev weight : List Leg → ℕ
-  weight ls = weigh (counts (facts_of x) x.ground.color quiet) ls
+  weight ls = weigh (counts (facts_of x) x.terrain.color quiet) ls
 
   abbrev square : ℕ
   square = square_at x.men i
 
   abbrev start : ℕ
-  start = counted x.ground.color way square
+  start = counted x.terrain.color way square
 
   -- as whom he is counted
   abbrev runner : Runner
@@ -137,17 +137,17 @@ module _ (d : Placement) (x : Side) (quiet : Bool) (way : Option Wing) (most : �
   -- where some man is captured, there are more men than goals
   more_men : (g : JourneysOf d x way) (u : ℕ) → g.fate square ≡ Falls u → x.goals.count < x.men.count
   more_men g u e =
-      let w : HasColumns (square_at x.goals) x.men.count x.goals.count (λ n. g.fate (square_at x.men n)) = columns_of_plan (facts_of x) d x.position x.ground.color way (square_at x.men) (square_at x.goals) x.men.count x.goals.count asked.side.men.listing asked.side.goals.listing g in
+      let w : HasColumns (square_at x.goals) x.men.count x.goals.count (λ n. g.fate (square_at x.men n)) = columns_of_plan (facts_of x) d x.position x.terrain.color way (square_at x.men) (square_at x.goals) x.men.count x.goals.count asked.side.men.listing asked.side.goals.listing g in
       let below : w.0 i < x.men.count = w.1 i asked.low in
       let above : x.goals.count ≤ w.0 i = subst (λ (o : Fate). InColumn (square_at x.goals) x.goals.count (w.0 i) o) e (w.3 i asked.low) in
       omega arith
 
   -- a path to a goal of d is one to its man
-  to_goal : (e t : ℕ) (j : Kind) (ls : List Leg) (k : Kind) (s : ℕ) → e < x.goals.count → square_at x.goals e ≡ t → Stands d x.ground.color j t → IsPath (facts_of x) x.ground.color k s ls j t → IsPath (facts_of x) x.ground.color k s ls (kind_at x.goals e) (square_at x.goals e)
+  to_goal : (e t : ℕ) (j : Kind) (ls : List Leg) (k : Kind) (s : ℕ) → e < x.goals.count → square_at x.goals e ≡ t → Stands d x.terrain.color j t → IsPath (facts_of x) x.terrain.color k s ls j t → IsPath (facts_of x) x.terrain.color k s ls (kind_at x.goals e) (square_at x.goals e)
   to_goal e t j ls k s low at st path =
-      let here : Stands d x.ground.color j (square_at x.goals e) = subst (λ (y : ℕ). Stands d x.ground.color j y) (sym at) st in
+      let here : Stands d x.terrain.color j (square_at x.goals e) = subst (λ (y : ℕ). Stands d x.terrain.color j y) (sym at) st in
       let same : j ≡ kind_at x.goals e = same_kind here (asked.side.goals.kinds e low) in
-      subst (λ (y : Kind). IsPath (facts_of x) x.ground.color k s ls y (square_at x.goals e)) same (subst (λ (y : ℕ). IsPath (facts_of x) x.ground.color k s ls j y) (sym at) path)
+      subst (λ (y : Kind). IsPath (facts_of x) x.terrain.color k s ls y (square_at x.goals e)) same (subst (λ (y : ℕ). IsPath (facts_of x) x.terrain.color k s ls j y) (sym at) path)
 
   -- and back: a plan for a path to a fate within its room
   with_path : (e : ℕ) (o : Fate) (ls : List Leg) → e < 17 → InEnd x.goals e o → MeetsAt d x way i ls o → room e < 255 → weight ls ≤ room e → (g : JourneysOf d x way) × IsPaidBy d x quiet way most g × (g.fate square ≡ o) × (g.path square ≡ ls)
@@ -163,15 +163,15 @@ module _ (d : Placement) (x : Side) (quiet : Bool) (way : Option Wing) (most : �
       of_fate (Falls u) ls end h = h.0
 
   -- ---- where he takes, and is captured, no other squares are than where captures may land
-  pub lands_known : (q : ℕ) → q < 64 → LandsOf d x quiet way most i q → has (landing x.ground.facts x.ground.color) q ≡ true
+  pub lands_known : (q : ℕ) → q < 64 → LandsOf d x quiet way most i q → has (landing x.terrain.facts x.terrain.color) q ≡ true
   lands_known q lq (g, paid, take) = along (g.fate square) (g.path square) (meets_at g) take
     where
-      along : (o : Fate) (ls : List Leg) → MeetsAt d x way i ls o → HasTake (facts_of x) x.ground.color q ls → has (landing x.ground.facts x.ground.color) q ≡ true
-      along (Arrives t) ls (j, low, st, path) take = takes_land (facts_of x) x.ground.color quiet q ls (kind_at x.men i) (counted x.ground.color way square) j t path take
-      along (Falls u) ls (ne, low, lands, inl (j, path)) take = takes_land (facts_of x) x.ground.color quiet q ls (kind_at x.men i) (counted x.ground.color way square) j u path take
-      along (Falls u) ls (ne, low, lands, inr (has_passed, none)) take = absurd (let z : false ≡ true = subst (λ (y : List Leg). HasTake (facts_of x) x.ground.color q y) none take in cc)
+      along : (o : Fate) (ls : List Leg) → MeetsAt d x way i ls o → HasTake (facts_of x) x.terrain.color q ls → has (landing x.terrain.facts x.terrain.color) q ≡ true
+      along (Arrives t) ls (j, low, st, path) take = takes_land (facts_of x) x.terrain.color quiet q ls (kind_at x.men i) (counted x.terrain.color way square) j t path take
+      along (Falls u) ls (ne, low, lands, inl (j, path)) take = takes_land (facts_of x) x.terrain.color quiet q ls (kind_at x.men i) (counted x.terrain.color way square) j u path take
+      along (Falls u) ls (ne, low, lands, inr (has_passed, none)) take = absurd (let z : false ≡ true = subst (λ (y : List Leg). HasTake (facts_of x) x.terrain.color q y) none take in cc)
 
-  pub falls_known : (q : ℕ) → q < 64 → FallsOf d x quiet way most i q → (room 16 < 255) × (has (landing x.ground.facts (other x.ground.color)) q ≡ true)
+  pub falls_known : (q : ℕ) → q < 64 → FallsOf d x quiet way most i q → (room 16 < 255) × (has (landing x.terrain.facts (other x.terrain.color)) q ≡ true)
   falls_known q lq (g, paid, e) =
       let r : (room 16 < 255) × (weight (g.path square) ≤ room 16) = asked.roomed.least i 16 g asked.low (omega arith) paid (subst (λ (o : Fate). InEnd x.goals 16 o) (sym e) refl) in
       let m : MeetsAt d x way i (g.path square) (Falls q) = subst (λ (o : Fate). MeetsAt d x way i (g.path square) o) e (meets_at g) in
@@ -192,22 +192,22 @@ module _ (d : Placement) (x : Side) (quiet : Bool) (way : Option Wing) (most : �
       (omega arith, end_with e s.0 s.1 le some s.2 s.3 s.4)
 
   -- ---- where he takes
-  takes_to : (e n q : ℕ) (j : Kind) (rest : List Leg) → room e < 255 → ComesTaking (facts_of x) x.ground.color quiet (kind_at x.men i) start j q n →
+  takes_to : (e n q : ℕ) (j : Kind) (rest : List Leg) → room e < 255 → ComesTaking (facts_of x) x.terrain.color quiet (kind_at x.men i) start j q n →
       EndWithin x quiet e (weight rest) j q → n + weight rest ≤ room e → TakesBy x runner (get_or rooms i []) e q
   takes_to e n q j rest some comes on fits =
       (some, (n, omega arith, (j, (n, omega arith, comes), end_more x quiet e (weight rest) (room e - n) j q (omega arith) on)))
 
-  takes_by : (o : Fate) (ls : List Leg) (e q : ℕ) → ((u : ℕ) → o ≡ Falls u → x.goals.count < x.men.count) → room e < 255 → weight ls ≤ room e → InEnd x.goals e o → MeetsAt d x way i ls o → HasTake (facts_of x) x.ground.color q ls → TakesBy x runner (get_or rooms i []) e q
+  takes_by : (o : Fate) (ls : List Leg) (e q : ℕ) → ((u : ℕ) → o ≡ Falls u → x.goals.count < x.men.count) → room e < 255 → weight ls ≤ room e → InEnd x.goals e o → MeetsAt d x way i ls o → HasTake (facts_of x) x.terrain.color q ls → TakesBy x runner (get_or rooms i []) e q
   takes_by (Arrives t) ls e q more some fits end (j, low, st, path) take =
-      let w : InTwo (facts_of x) x.ground.color quiet (kind_at x.men i) start (kind_at x.goals e) (square_at x.goals e) q (weight ls) = path_in_two (facts_of x) x.ground.color quiet q ls (kind_at x.men i) start (kind_at x.goals e) (square_at x.goals e) (to_goal e t j ls (kind_at x.men i) start end.0 end.1 st path) take in
+      let w : InTwo (facts_of x) x.terrain.color quiet (kind_at x.men i) start (kind_at x.goals e) (square_at x.goals e) q (weight ls) = path_in_two (facts_of x) x.terrain.color quiet q ls (kind_at x.men i) start (kind_at x.goals e) (square_at x.goals e) (to_goal e t j ls (kind_at x.men i) start end.0 end.1 st path) take in
       let sum : w.1 + weight w.2 ≡ weight ls = w.5 in
       takes_to e w.1 q w.0 w.2 some w.3 (inl (end.0, (w.2, w.4, omega arith))) (omega arith)
   takes_by (Falls u) ls e q more some fits end (ne, low, lands, inl (j, path)) take =
-      let w : InTwo (facts_of x) x.ground.color quiet (kind_at x.men i) start j u q (weight ls) = path_in_two (facts_of x) x.ground.color quiet q ls (kind_at x.men i) start j u path take in
+      let w : InTwo (facts_of x) x.terrain.color quiet (kind_at x.men i) start j u q (weight ls) = path_in_two (facts_of x) x.terrain.color quiet q ls (kind_at x.men i) start j u path take in
       let sum : w.1 + weight w.2 ≡ weight ls = w.5 in
       takes_to e w.1 q w.0 w.2 some w.3 (inr (end, more u refl, (j, u, w.2, low, lands, w.4, omega arith))) (omega arith)
   takes_by (Falls u) ls e q more some fits end (ne, low, lands, inr (has_passed, none)) take =
-      absurd (let z : false ≡ true = subst (λ (y : List Leg). HasTake (facts_of x) x.ground.color q y) none take in cc)
+      absurd (let z : false ≡ true = subst (λ (y : List Leg). HasTake (facts_of x) x.terrain.color q y) none take in cc)
 
   pub lands_found : (q : ℕ) → q < 64 → LandsOf d x quiet way most i q → TakesToSome x runner (get_or rooms i []) q
   lands_found q lq (g, paid, take) =
@@ -215,17 +215,17 @@ module _ (d : Placement) (x : Side) (quiet : Bool) (way : Option Wing) (most : �
       let r : (room w.0 < 255) × (weight (g.path square) ≤ room w.0) = asked.roomed.least i w.0 g asked.low w.1 paid w.2 in
       (w.0, w.1, takes_by (g.fate square) (g.path square) w.0 q (more_men g) r.0 r.1 w.2 (meets_at g) take)
 
-  lands_by : (e a n q : ℕ) (k : Kind) → e < 17 → room e < 255 → ComesTaking (facts_of x) x.ground.color quiet (kind_at x.men i) start k q n → n ≤ a → a < room e + 1 → EndWithin x quiet e (room e - a) k q → LandsOf d x quiet way most i q
+  lands_by : (e a n q : ℕ) (k : Kind) → e < 17 → room e < 255 → ComesTaking (facts_of x) x.terrain.color quiet (kind_at x.men i) start k q n → n ≤ a → a < room e + 1 → EndWithin x quiet e (room e - a) k q → LandsOf d x quiet way most i q
   lands_by e a n q k le some comes less inside (inl (low, (ms, path, fits))) =
-      let w : InOne (facts_of x) x.ground.color quiet (kind_at x.men i) start (kind_at x.goals e) (square_at x.goals e) q (n + weight ms) = path_in_one (facts_of x) x.ground.color quiet q (kind_at x.men i) start k n ms (kind_at x.goals e) (square_at x.goals e) comes path in
+      let w : InOne (facts_of x) x.terrain.color quiet (kind_at x.men i) start (kind_at x.goals e) (square_at x.goals e) q (n + weight ms) = path_in_one (facts_of x) x.terrain.color quiet q (kind_at x.men i) start k n ms (kind_at x.goals e) (square_at x.goals e) comes path in
       let sum : weight w.0 ≡ n + weight ms = w.3 in
       let p : (g : JourneysOf d x way) × IsPaidBy d x quiet way most g × (g.fate square ≡ Arrives (square_at x.goals e)) × (g.path square ≡ w.0) = with_path e (Arrives (square_at x.goals e)) w.0 le (low, refl) (kind_at x.goals e, asked.side.goals.listing.low e low, asked.side.goals.kinds e low, w.1) some (omega arith) in
-      (p.0, p.1, subst (λ (y : List Leg). HasTake (facts_of x) x.ground.color q y) (sym p.3) w.2)
+      (p.0, p.1, subst (λ (y : List Leg). HasTake (facts_of x) x.terrain.color q y) (sym p.3) w.2)
   lands_by e a n q k le some comes less inside (inr (is, more, (j, t, ms, low, lands, path, fits))) =
-      let w : InOne (facts_of x) x.ground.color quiet (kind_at x.men i) start j t q (n + weight ms) = path_in_one (facts_of x) x.ground.color quiet q (kind_at x.men i) start k n ms j t comes path in
+      let w : InOne (facts_of x) x.terrain.color quiet (kind_at x.men i) start j t q (n + weight ms) = path_in_one (facts_of x) x.terrain.color quiet q (kind_at x.men i) start k n ms j t comes path in
       let sum : weight w.0 ≡ n + weight ms = w.3 in
       let p : (g : JourneysOf d x way) × IsPaidBy d x quiet way most g × (g.fate square ≡ Falls t) × (g.path square ≡ w.0) = with_path e (Falls t) w.0 le is (no_king (subst (λ (y : ℕ). room y < 255) is some), low, lands, inl (j, w.1)) some (omega arith) in
-      (p.0, p.1, subst (λ (y : List Leg). HasTake (facts_of x) x.ground.color q y) (sym p.3) w.2)
+      (p.0, p.1, subst (λ (y : List Leg). HasTake (facts_of x) x.terrain.color q y) (sym p.3) w.2)
 
   pub lands_back : (q : ℕ) → q < 64 → TakesToSome x runner (get_or rooms i []) q → LandsOf d x quiet way most i q
   lands_back q lq (e, le, (some, (a, inside, (k, (n, less, comes), on)))) = lands_by e a n q k le some comes less inside on
@@ -251,21 +251,21 @@ module _ (d : Placement) (x : Side) (quiet : Bool) (way : Option Wing) (most : �
   -- ---- where he changes
   stays_counted : kind_at x.men i ≡ Pawn → start ≡ square
   stays_counted e =
-      let st : Stands x.position.board x.ground.color Pawn square = subst (λ (y : Kind). Stands x.position.board x.ground.color y square) e (asked.side.men.kinds i asked.low) in
-      pawn_counted x.position.board x.ground.color way square asked.side.pawns (asked.side.men.listing.low i asked.low) st
+      let st : Stands x.position.board x.terrain.color Pawn square = subst (λ (y : Kind). Stands x.position.board x.terrain.color y square) e (asked.side.men.kinds i asked.low) in
+      pawn_counted x.position.board x.terrain.color way square asked.side.pawns (asked.side.men.listing.low i asked.low) st
 
   abbrev Changed : ℕ → Type 0
   Changed e = ChangesBy x (walker_of x quiet way i) e (room e)
 
   -- a path of a step or more back to his square
-  back_by : (e : ℕ) (l : Leg) (ls : List Leg) → e < x.goals.count → e < 17 → room e < 255 → weight (l ∷ ls) ≤ room e → square_at x.goals e ≡ square → kind_at x.goals e ≡ kind_at x.men i → kind_at x.men i ≢ Pawn → IsPath (facts_of x) x.ground.color (kind_at x.men i) start (l ∷ ls) (kind_at x.goals e) (square_at x.goals e) → ComesBack x runner e (room e)
+  back_by : (e : ℕ) (l : Leg) (ls : List Leg) → e < x.goals.count → e < 17 → room e < 255 → weight (l ∷ ls) ≤ room e → square_at x.goals e ≡ square → kind_at x.goals e ≡ kind_at x.men i → kind_at x.men i ≢ Pawn → IsPath (facts_of x) x.terrain.color (kind_at x.men i) start (l ∷ ls) (kind_at x.goals e) (square_at x.goals e) → ComesBack x runner e (room e)
   back_by e l ls low le some fits at same piece (a, b, is, path) =
       let not_pawn : l.kind ≢ Pawn = λ p. piece (sym a ∙ p) in
-      let into : l.into ≡ kind_at x.men i = stays_piece (facts_of x) x.ground.color l.kind l.to l.into not_pawn is.free.3 ∙ a in
-      let on : IsPath (facts_of x) x.ground.color (kind_at x.men i) l.to ls (kind_at x.goals e) (square_at x.goals e) = subst (λ (y : Kind). IsPath (facts_of x) x.ground.color y l.to ls (kind_at x.goals e) (square_at x.goals e)) into path in
-      let count : counts (facts_of x) x.ground.color quiet l ≡ cond (quiet && has (landing x.ground.facts x.ground.color) l.to) 0 1 = step_counts (facts_of x) x.ground.color quiet l (kind_at x.men i) start piece a in
-      let sum : counts (facts_of x) x.ground.color quiet l + weight ls ≤ room e = fits in
-      (l.to, is.free.1, leg_along (facts_of x) x.ground.color l (kind_at x.men i) start a b into is, weight ls, inl (low, (ls, on, omega arith)), omega arith)
+      let into : l.into ≡ kind_at x.men i = stays_piece (facts_of x) x.terrain.color l.kind l.to l.into not_pawn is.free.3 ∙ a in
+      let on : IsPath (facts_of x) x.terrain.color (kind_at x.men i) l.to ls (kind_at x.goals e) (square_at x.goals e) = subst (λ (y : Kind). IsPath (facts_of x) x.terrain.color y l.to ls (kind_at x.goals e) (square_at x.goals e)) into path in
+      let count : counts (facts_of x) x.terrain.color quiet l ≡ cond (quiet && has (landing x.terrain.facts x.terrain.color) l.to) 0 1 = step_counts (facts_of x) x.terrain.color quiet l (kind_at x.men i) start piece a in
+      let sum : counts (facts_of x) x.terrain.color quiet l + weight ls ≤ room e = fits in
+      (l.to, is.free.1, leg_along (facts_of x) x.terrain.color l (kind_at x.men i) start a b into is, weight ls, inl (low, (ls, on, omega arith)), omega arith)
 
   changed_by : (o : Fate) (ls : List Leg) (e : ℕ) → e < 17 → room e < 255 → weight ls ≤ room e → InEnd x.goals e o → MeetsAt d x way i ls o → ((o ≡ Arrives square) × (ls ≡ []) → ⊥) → Changed e
   changed_by (Falls u) ls e le some fits end h moves = inl end
@@ -277,10 +277,10 @@ module _ (d : Placement) (x : Side) (quiet : Bool) (way : Option Wing) (most : �
     ]
   ]
     where
-      by_path : (ms : List Leg) → weight ms ≤ room e → square_at x.goals e ≡ square → kind_at x.goals e ≡ kind_at x.men i → IsPath (facts_of x) x.ground.color (kind_at x.men i) start ms (kind_at x.goals e) (square_at x.goals e) → (ms ≡ [] → ⊥) → Changed e
+      by_path : (ms : List Leg) → weight ms ≤ room e → square_at x.goals e ≡ square → kind_at x.goals e ≡ kind_at x.men i → IsPath (facts_of x) x.terrain.color (kind_at x.men i) start ms (kind_at x.goals e) (square_at x.goals e) → (ms ≡ [] → ⊥) → Changed e
       by_path [] less at same p some_step = absurd (some_step refl)
       by_path (l ∷ ms) less at same p some_step = elim (dec_kind (kind_at x.men i) Pawn) [
-        | yes pawn ↦ absurd (no_pawn_back (facts_of x) x.ground.color l ms (kind_at x.men i) square (subst (λ (y : ℕ). IsPath (facts_of x) x.ground.color (kind_at x.men i) y (l ∷ ms) Pawn square) (stays_counted pawn) (subst (λ (y : ℕ). IsPath (facts_of x) x.ground.color (kind_at x.men i) start (l ∷ ms) Pawn y) at (subst (λ (y : Kind). IsPath (facts_of x) x.ground.color (kind_at x.men i) start (l ∷ ms) y (square_at x.goals e)) (same ∙ pawn) p))))
+        | yes pawn ↦ absurd (no_pawn_back (facts_of x) x.terrain.color l ms (kind_at x.men i) square (subst (λ (y : ℕ). IsPath (facts_of x) x.terrain.color (kind_at x.men i) y (l ∷ ms) Pawn square) (stays_counted pawn) (subst (λ (y : ℕ). IsPath (facts_of x) x.terrain.color (kind_at x.men i) start (l ∷ ms) Pawn y) at (subst (λ (y : Kind). IsPath (facts_of x) x.terrain.color (kind_at x.men i) start (l ∷ ms) y (square_at x.goals e)) (same ∙ pawn) p))))
         | no piece ↦ inr (inr (inr (piece, back_by e l ms end.0 le some less at same piece p)))
       ]
 
@@ -293,7 +293,7 @@ module _ (d : Placement) (x : Side) (quiet : Bool) (way : Option Wing) (most : �
   pub lands_change : (q : ℕ) → LandsOf d x quiet way most i q → (e : ℕ) × (e < 17) × Changes d x quiet way most i e
   lands_change q (g, paid, take) =
       let w : (e : ℕ) × (e < 17) × InEnd x.goals e (g.fate square) = end_of (g.fate square) (g.path square) (meets_at g) in
-      (w.0, w.1, (g, paid, w.2, λ h. (let z : false ≡ true = subst (λ (y : List Leg). HasTake (facts_of x) x.ground.color q y) h.1 take in cc)))
+      (w.0, w.1, (g, paid, w.2, λ h. (let z : false ≡ true = subst (λ (y : List Leg). HasTake (facts_of x) x.terrain.color q y) h.1 take in cc)))
 
   pub falls_change : (q : ℕ) → FallsOf d x quiet way most i q → (e : ℕ) × (e < 17) × Changes d x quiet way most i e
   falls_change q (g, paid, e) = (16, omega arith, (g, paid, subst (λ (o : Fate). InEnd x.goals 16 o) (sym e) refl, λ h. no_fall (sym h.0 ∙ e)))
@@ -317,14 +317,14 @@ module _ (d : Placement) (x : Side) (quiet : Bool) (way : Option Wing) (most : �
   change_by (Arrives t) ls e le some fits end (j, low, st, path) (inr (inr (inl ne))) =
       change_with e (Arrives t) ls le end (j, low, st, path) some fits
       (λ a b.
-      let p : IsPath (facts_of x) x.ground.color (kind_at x.men i) start [] (kind_at x.goals e) (square_at x.goals e) = subst (λ (y : List Leg). IsPath (facts_of x) x.ground.color (kind_at x.men i) start y (kind_at x.goals e) (square_at x.goals e)) b (to_goal e t j ls (kind_at x.men i) start end.0 end.1 st path) in
+      let p : IsPath (facts_of x) x.terrain.color (kind_at x.men i) start [] (kind_at x.goals e) (square_at x.goals e) = subst (λ (y : List Leg). IsPath (facts_of x) x.terrain.color (kind_at x.men i) start y (kind_at x.goals e) (square_at x.goals e)) b (to_goal e t j ls (kind_at x.men i) start end.0 end.1 st path) in
       ne (sym p.0))
   change_by (Arrives t) ls e le some fits end h (inr (inr (inr (piece, (s, low, is, n, on, sum))))) = by_step s n piece is on sum
     where
-      by_step : (s n : ℕ) → kind_at x.men i ≢ Pawn → IsLeg (facts_of x) x.ground.color (leg (kind_at x.men i) start (kind_at x.men i) s) → EndWithin x quiet e n (kind_at x.men i) s →
-          cond (quiet && has (landing x.ground.facts x.ground.color) s) 0 1 + n ≤ room e → Changes d x quiet way most i e
+      by_step : (s n : ℕ) → kind_at x.men i ≢ Pawn → IsLeg (facts_of x) x.terrain.color (leg (kind_at x.men i) start (kind_at x.men i) s) → EndWithin x quiet e n (kind_at x.men i) s →
+          cond (quiet && has (landing x.terrain.facts x.terrain.color) s) 0 1 + n ≤ room e → Changes d x quiet way most i e
       by_step s n piece is (inl (inside, (ms, path, less))) sum =
-          let count : counts (facts_of x) x.ground.color quiet (leg (kind_at x.men i) start (kind_at x.men i) s) ≡ cond (quiet && has (landing x.ground.facts x.ground.color) s) 0 1 = step_counts (facts_of x) x.ground.color quiet (leg (kind_at x.men i) start (kind_at x.men i) s) (kind_at x.men i) start piece refl in
+          let count : counts (facts_of x) x.terrain.color quiet (leg (kind_at x.men i) start (kind_at x.men i) s) ≡ cond (quiet && has (landing x.terrain.facts x.terrain.color) s) 0 1 = step_counts (facts_of x) x.terrain.color quiet (leg (kind_at x.men i) start (kind_at x.men i) s) (kind_at x.men i) start piece refl in
           change_with e (Arrives (square_at x.goals e)) (leg (kind_at x.men i) start (kind_at x.men i) s ∷ ms) le (inside, refl) (kind_at x.goals e, asked.side.goals.listing.low e inside, asked.side.goals.kinds e inside, (refl, refl, is, path)) some (omega arith) (λ a none. cc)
       by_step s n piece is (inr (last, _, _)) sum = absurd (let few : x.goals.count ≤ 16 = asked.side.goals.few in let inside : e < x.goals.count = end.0 in omega arith)
 

@@ -17,7 +17,7 @@ use Rattle.pg_journeys.specs.inner.Rings.{AreRings, AreWithin, TakesWithin}
 use Rattle.pg_journeys.specs.inner.Reached.{TakesAfter, IsReach}
 use Rattle.pg_journeys.specs.inner.Sides.{facts_of, EndWithin}
 use Rattle.pg_journeys.specs.inner.Narrowed.{IsInBoth, TakesAt, TakesTo, ComesBy, TakesBack, ComesBack}
-use Rattle.pg_journeys.specs.declared.plans.Side.{Side}
+use Rattle.pg_journeys.specs.declared.side.Side.{Side}
 use Rattle.pg_journeys.specs.declared.rings.Runner.{Runner}
 use Rattle.pg_journeys.specs.declared.rings.Rings.{Rings}
 use Rattle.pg_journeys.specs.declared.rings.Reach.{Reach}
@@ -106,16 +106,16 @@ module _ (f : Facts) (c : Color) (k : Kind) (s : ℕ) (r : Rings) where
       (takes_is f c false k s (r.count - 1) r.count j q (omega arith)).0 (are.whole all (i - 1) j q low ((takes_is f c false k s (i - 1) i j q (omega arith)).1 takes))
 
 -- who takes within a room takes within the last number of it that tells something new
-to_last : (x : Side) (m : Runner) (r : Reach) (e room last i q : ℕ) → IsReach (facts_of x) x.ground.color m r → (last ≡ room) ⊎ ((r.taken.is_whole ≡ true) × (last ≡ r.taken.count)) → q < 64 → i < room + 1 → TakesAt x m e room i q → (a : ℕ) × (a < last + 1) × TakesAt x m e room a q
+to_last : (x : Side) (m : Runner) (r : Reach) (e room last i q : ℕ) → IsReach (facts_of x) x.terrain.color m r → (last ≡ room) ⊎ ((r.taken.is_whole ≡ true) × (last ≡ r.taken.count)) → q < 64 → i < room + 1 → TakesAt x m e room i q → (a : ℕ) × (a < last + 1) × TakesAt x m e room a q
 to_last x m r e room last i q reach (inl same) low inside takes = (i, omega arith, takes)
 to_last x m r e room last i q reach (inr (all, same)) low inside (j, takes, on) = elim (cases_lt i (last + 1)) [
   | inl less ↦ (i, less, (j, takes, on))
   | inr more ↦
-      (let within : TakesWithin (facts_of x) x.ground.color m.is_quiet m.kind m.square r.taken.count j q = takes_last (facts_of x) x.ground.color m.kind m.square r.taken m.is_quiet reach.taken all i j q low (omega arith) takes in
-      (last, omega arith, (j, subst (λ (n : ℕ). TakesWithin (facts_of x) x.ground.color m.is_quiet m.kind m.square n j q) (sym same) within, end_more x m.is_quiet e (room - i) (room - last) j q (omega arith) on)))
+      (let within : TakesWithin (facts_of x) x.terrain.color m.is_quiet m.kind m.square r.taken.count j q = takes_last (facts_of x) x.terrain.color m.kind m.square r.taken m.is_quiet reach.taken all i j q low (omega arith) takes in
+      (last, omega arith, (j, subst (λ (n : ℕ). TakesWithin (facts_of x) x.terrain.color m.is_quiet m.kind m.square n j q) (sym same) within, end_more x m.is_quiet e (room - i) (room - last) j q (omega arith) on)))
 ]
 
-pub all_taken : (x : Side) (m : Runner) (r : Reach) (e room last all : ℕ) → IsReach (facts_of x) x.ground.color m r → last ≤ room → (last ≡ room) ⊎ ((r.taken.is_whole ≡ true) × (last ≡ r.taken.count)) →
+pub all_taken : (x : Side) (m : Runner) (r : Reach) (e room last all : ℕ) → IsReach (facts_of x) x.terrain.color m r → last ≤ room → (last ≡ room) ⊎ ((r.taken.is_whole ≡ true) × (last ≡ r.taken.count)) →
     IsSetOf all (λ q. (i : ℕ) × (i < last + 1) × TakesAt x m e room i q) → IsSetOf all (TakesTo x m e room)
 all_taken x m r e room last all reach le is set q l = (
   λ t. (let w : (i : ℕ) × (i < last + 1) × TakesAt x m e room i q = (set q l).0 t in (w.0, (let low : w.0 < last + 1 = w.1 in omega arith), w.2)),
@@ -134,7 +134,7 @@ comes_on x m e n set men sets b same within is = (
 pub takes_not : (x : Side) (m : Runner) (e room steps : ℕ) → m.is_quiet ≡ false → IsTrue false ↔ TakesBack x m e room steps
 takes_not x m e room steps off = (λ t. absurd (cc), λ w. absurd (let on : m.is_quiet ≡ true = w.0 in cc))
 
-pub takes_on : (x : Side) (m : Runner) (e room steps lands both : ℕ) (b : Bool) → m.is_quiet ≡ true → lands ≡ landing x.ground.facts x.ground.color → ((q : ℕ) → has both q ≡ (has steps q && has lands q)) →
+pub takes_on : (x : Side) (m : Runner) (e room steps lands both : ℕ) (b : Bool) → m.is_quiet ≡ true → lands ≡ landing x.terrain.facts x.terrain.color → ((q : ℕ) → has both q ≡ (has steps q && has lands q)) →
     IsTrue b ↔ ComesBy x m e room both → IsTrue b ↔ TakesBack x m e room steps
 takes_on x m e room steps lands both b on same made is = (
   λ t. (let w : ComesBy x m e room both = is.0 t in
@@ -159,22 +159,22 @@ paid_one : (b : Bool) (n r : ℕ) → b ≡ false → cond b 0 1 + n ≤ r → (
 paid_one true n r e l = absurd (cc)
 paid_one false n r e l = (omega arith, omega arith)
 
-module _ (x : Side) (m : Runner) (e room steps : ℕ) (are : IsSetOf steps (λ t. IsLeg (facts_of x) x.ground.color (leg m.kind m.square m.kind t))) where
+module _ (x : Side) (m : Runner) (e room steps : ℕ) (are : IsSetOf steps (λ t. IsLeg (facts_of x) x.terrain.color (leg m.kind m.square m.kind t))) where
   pub back_taking : TakesBack x m e room steps → ComesBack x m e room
   back_taking (quiet, t, low, on, lands, within) =
-      (t, low, (are t low).0 on, room, within, costs_none (m.is_quiet && has (landing x.ground.facts x.ground.color) t) room (and_from m.is_quiet (has (landing x.ground.facts x.ground.color) t) quiet lands))
+      (t, low, (are t low).0 on, room, within, costs_none (m.is_quiet && has (landing x.terrain.facts x.terrain.color) t) room (and_from m.is_quiet (has (landing x.terrain.facts x.terrain.color) t) quiet lands))
 
   pub back_step : 0 < room → ComesBy x m e (room - 1) steps → ComesBack x m e room
   back_step some (t, low, on, within) =
-      (t, low, (are t low).0 on, room - 1, within, costs_one (m.is_quiet && has (landing x.ground.facts x.ground.color) t) room some)
+      (t, low, (are t low).0 on, room - 1, within, costs_one (m.is_quiet && has (landing x.terrain.facts x.terrain.color) t) room some)
 
   pub back_parts : ComesBack x m e room → TakesBack x m e room steps ⊎ ((0 < room) × ComesBy x m e (room - 1) steps)
-  back_parts (t, low, is, n, within, sum) = elim (cases_Bool (m.is_quiet && has (landing x.ground.facts x.ground.color) t)) [
+  back_parts (t, low, is, n, within, sum) = elim (cases_Bool (m.is_quiet && has (landing x.terrain.facts x.terrain.color) t)) [
     | inl on ↦
-        (let h : (m.is_quiet ≡ true) × (has (landing x.ground.facts x.ground.color) t ≡ true) = and_both m.is_quiet (has (landing x.ground.facts x.ground.color) t) on in
-        inl (h.0, t, low, (are t low).1 is, h.1, end_more x m.is_quiet e n room m.kind t (paid_none (m.is_quiet && has (landing x.ground.facts x.ground.color) t) n room sum) within))
+        (let h : (m.is_quiet ≡ true) × (has (landing x.terrain.facts x.terrain.color) t ≡ true) = and_both m.is_quiet (has (landing x.terrain.facts x.terrain.color) t) on in
+        inl (h.0, t, low, (are t low).1 is, h.1, end_more x m.is_quiet e n room m.kind t (paid_none (m.is_quiet && has (landing x.terrain.facts x.terrain.color) t) n room sum) within))
     | inr off ↦
-        (let h : (0 < room) × (n ≤ room - 1) = paid_one (m.is_quiet && has (landing x.ground.facts x.ground.color) t) n room off sum in
+        (let h : (0 < room) × (n ≤ room - 1) = paid_one (m.is_quiet && has (landing x.terrain.facts x.terrain.color) t) n room off sum in
         inr (h.0, (t, low, (are t low).1 is, end_more x m.is_quiet e n (room - 1) m.kind t h.1 within)))
   ]
 

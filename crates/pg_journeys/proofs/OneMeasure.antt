@@ -21,11 +21,13 @@ use Rattle.pg_journeys.specs.lemmas.Turns.{leg}
 use Rattle.pg_journeys.specs.inner.Counting.{counts}
 use Rattle.pg_journeys.specs.inner.Sides.{facts_of, square_at, kind_at, IsSide, EndWithin, AreAims, aim_at, AreRooms, JourneysOf, IsPaidBy, MeetsAt, InEnd}
 use Rattle.pg_journeys.specs.inner.Deeds.{Lands, FallsOn, Changes, AreDeeds}
-use Rattle.pg_journeys.specs.inner.Showing.{IsMeasured, IsOneMeasure, IsSameBy}
+use Rattle.pg_journeys.specs.inner.Measures.{AreMeasures}
+use Rattle.pg_journeys.specs.inner.Showing.{IsSameBy}
+use Rattle.pg_journeys.proofs.MeasuredLemmas.{measured_aims, measured_rows}
 use Rattle.pg_journeys.specs.inner.Costing.{IsCountTo, AreCostRows, AreCostsOf}
-use Rattle.pg_journeys.specs.declared.plans.Side.{Side}
+use Rattle.pg_journeys.specs.declared.side.Side.{Side}
 use Rattle.pg_journeys.specs.declared.narrowing.Deeds.{Deeds}
-use Rattle.pg_journeys.specs.declared.shown.Measured.{Measured}
+use Rattle.pg_journeys.specs.declared.measured.Measured.{Measured}
 use Rattle.pg_journeys.specs.declared.rings.Rings.{Rings}
 use Rattle.pg_journeys.proofs.EndLemmas.{rings_as}
 use Rattle.pg_journeys.proofs.StepLemmas.{piece_takes, push_takes_not, quiet_counts, leg_low}
@@ -54,15 +56,15 @@ module _ (f : Facts) (c : Color) (none : (t : ℕ) → t < 64 → f.lands c t �
       omega arith
 
 -- ---- counts to ends
-module _ (x : Side) (empty : HasNoneFrom (landing x.ground.facts x.ground.color) 0) where
-  none_lands : (t : ℕ) → t < 64 → (facts_of x).lands x.ground.color t ≡ false
+module _ (x : Side) (empty : HasNoneFrom (landing x.terrain.facts x.terrain.color) 0) where
+  none_lands : (t : ℕ) → t < 64 → (facts_of x).lands x.terrain.color t ≡ false
   none_lands t l = empty t (omega arith) l
 
   abbrev weight : Bool → List Leg → ℕ
-  weight q ls = weigh (counts (facts_of x) x.ground.color q) ls
+  weight q ls = weigh (counts (facts_of x) x.terrain.color q) ls
 
-  same : (q r : Bool) (ls : List Leg) (k : Kind) (s : ℕ) (j : Kind) (t : ℕ) → IsPath (facts_of x) x.ground.color k s ls j t → weight q ls ≡ weight r ls
-  same q r ls k s j t path = same_weight (facts_of x) x.ground.color none_lands q r ls k s j t path
+  same : (q r : Bool) (ls : List Leg) (k : Kind) (s : ℕ) (j : Kind) (t : ℕ) → IsPath (facts_of x) x.terrain.color k s ls j t → weight q ls ≡ weight r ls
+  same q r ls k s j t path = same_weight (facts_of x) x.terrain.color none_lands q r ls k s j t path
 
   pub same_end : (q r : Bool) (e n : ℕ) (k : Kind) (s : ℕ) → EndWithin x q e n k s → EndWithin x r e n k s
   same_end q r e n k s (inl (l, (ls, path, le))) =
@@ -82,18 +84,18 @@ module _ (x : Side) (empty : HasNoneFrom (landing x.ground.facts x.ground.color)
 
   same_rows : (q r : Bool) (way : Option Wing) (most : ℕ) (rows : List (List ℕ)) (n : ℕ) → AreCostRows x q way most rows n → AreCostRows x r way most rows n
   same_rows q r way most rows n are i l j lj = record {
-    comes = λ h. same_count q r most j (kind_at x.men i) (counted x.ground.color way (square_at x.men i)) _ ((are i l j lj).comes h);
+    comes = λ h. same_count q r most j (kind_at x.men i) (counted x.terrain.color way (square_at x.men i)) _ ((are i l j lj).comes h);
     falls = λ h. record {
       king = ((are i l j lj).falls h).king;
       other = λ ne. elim (((are i l j lj).falls h).other ne) [
         | inl w ↦ inl w
-        | inr w ↦ inr (w.0, same_count q r most 16 (kind_at x.men i) (counted x.ground.color way (square_at x.men i)) _ w.1)
+        | inr w ↦ inr (w.0, same_count q r most 16 (kind_at x.men i) (counted x.terrain.color way (square_at x.men i)) _ w.1)
       ];
     };
   }
 
   -- what a man meets his fate by counts as much by both
-  meets_weight : (d : Placement) (q r : Bool) (k : Kind) (s b : ℕ) (ls : List Leg) (o : Fate) → Meets (facts_of x) d x.position x.ground.color k s b ls o → weight q ls ≡ weight r ls
+  meets_weight : (d : Placement) (q r : Bool) (k : Kind) (s b : ℕ) (ls : List Leg) (o : Fate) → Meets (facts_of x) d x.position x.terrain.color k s b ls o → weight q ls ≡ weight r ls
   meets_weight d q r k s b ls (Arrives t) (j, low, st, path) = same q r ls k b j t path
   meets_weight d q r k s b ls (Falls u) (king, low, on, inl (j, path)) = same q r ls k b j u path
   meets_weight d q r k s b ls (Falls u) (king, low, on, inr (passed, e)) = ap (weight q) e ∙ sym (ap (weight r) e)
@@ -106,11 +108,11 @@ module _ (x : Side) (empty : HasNoneFrom (landing x.ground.facts x.ground.color)
     small = h.small;
     attained = λ i j li lj some. (
         let w = h.attained i j li lj some in
-        let e : weight q w.1 ≡ weight r w.1 = meets_weight d q r (kind_at x.men i) (square_at x.men i) (counted x.ground.color way (square_at x.men i)) w.1 w.0
+        let e : weight q w.1 ≡ weight r w.1 = meets_weight d q r (kind_at x.men i) (square_at x.men i) (counted x.terrain.color way (square_at x.men i)) w.1 w.0
         (w.3 (kind_at x.men i) (side.men.kinds i (omega (arith, li, size)))) in
         (w.0, w.1, w.2, w.3, sym e ∙ w.4));
     least = λ i j o ls b li lj st in_column meets low. (
-        let e : weight q ls ≡ weight r ls = meets_weight d q r b (square_at x.men i) (counted x.ground.color way (square_at x.men i)) ls o meets in
+        let e : weight q ls ≡ weight r ls = meets_weight d q r b (square_at x.men i) (counted x.terrain.color way (square_at x.men i)) ls o meets in
         let l : cost k i j ≤ weight q ls = h.least i j o ls b li lj st in_column meets (omega (arith, e, low)) in
         omega (arith, e, l));
   }
@@ -118,7 +120,7 @@ module _ (x : Side) (empty : HasNoneFrom (landing x.ground.facts x.ground.color)
   -- ---- what plans have
   module _ (d : Placement) (way : Option Wing) (side : IsSide d x) where
     meeting_weight : (q r : Bool) (i : ℕ) (ls : List Leg) (o : Fate) → MeetsAt d x way i ls o → weight q ls ≡ weight r ls
-    meeting_weight q r i ls o h = meets_weight d q r (kind_at x.men i) (square_at x.men i) (counted x.ground.color way (square_at x.men i)) ls o h
+    meeting_weight q r i ls o h = meets_weight d q r (kind_at x.men i) (square_at x.men i) (counted x.terrain.color way (square_at x.men i)) ls o h
 
     end_of : (i : ℕ) (o : Fate) (ls : List Leg) → MeetsAt d x way i ls o → (e : ℕ) × (e < 17) × InEnd x.goals e o
     end_of i (Arrives t) ls (j, low, st, path) =
@@ -143,7 +145,7 @@ module _ (x : Side) (empty : HasNoneFrom (landing x.ground.facts x.ground.color)
       lands_other : (t : ℕ) → Lands d x q way most t → Lands d x r way most t
       lands_other t h =
           let g = another h.2.0 h.2.1 h.0 h.1 in
-          (g.0, g.1, (h.2.0, h.2.1, subst (λ (ls : List Leg). HasTake (facts_of x) x.ground.color t ls) (sym g.3) h.2.2))
+          (g.0, g.1, (h.2.0, h.2.1, subst (λ (ls : List Leg). HasTake (facts_of x) x.terrain.color t ls) (sym g.3) h.2.2))
 
       falls_other : (t : ℕ) → FallsOn d x q way most t → FallsOn d x r way most t
       falls_other t h =
@@ -171,10 +173,8 @@ costs_too d x way q r most k side size (inl e) h = subst (λ (b : Bool). AreCost
 costs_too d x way q r most k side size (inr empty) h = same_costs x empty d way q r most k side size h
 
 -- what is measured by moves is measured by quiet moves too
-pub measured_too : (x : Side) (m : Measured) (most : ℕ) → IsOneMeasure x most most → IsMeasured x false m → IsMeasured x true m
-measured_too x m most one h = record {
-  low = h.low;
-  aims = same_aims x one.none false true m.aims.now h.aims;
-  size = h.size;
-  rows = same_rows x one.none false true None m.most m.costs.rows x.men.count h.rows;
+pub measured_too : (m : Measured) → m.is_quiet ≡ false → HasNoneFrom (landing m.side.now.terrain.facts m.side.now.terrain.color) 0 → AreMeasures m.side.now true m.aims.now m.most m.costs.rows
+measured_too m off none = record {
+  aims = same_aims m.side.now none m.is_quiet true m.aims.now (measured_aims m);
+  rows = same_rows m.side.now none m.is_quiet true None m.most m.costs.rows m.side.now.men.count (measured_rows m);
 }

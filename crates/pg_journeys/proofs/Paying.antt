@@ -17,7 +17,7 @@ use Rattle.pg_journeys.specs.inner.Counting.{counts}
 use Rattle.pg_journeys.specs.inner.Sides.{facts_of, square_at, kind_at, IsSide, JourneysOf, IsPaidBy}
 use Rattle.pg_journeys.specs.inner.Deeds.{Lands, FallsOn}
 use Rattle.pg_journeys.specs.inner.Showing.{is_quiet, IsBudget, AreBudgets, TakesIn, FallsIn}
-use Rattle.pg_journeys.specs.declared.plans.Side.{Side}
+use Rattle.pg_journeys.specs.declared.side.Side.{Side}
 
 -- what paths count is what they cost by the measure
 pub all_counted : (f : Facts) (c : Color) (paths : ℕ → List Leg) → total (λ s. weigh (counts f c false) (paths s)) 64 ≡ total (λ s. length (paths s)) 64
@@ -28,7 +28,7 @@ few_counted f c paths = total_same (λ s. quiet f c (paths s)) (λ s. weigh (cou
 
 module _ (d : Placement) (x : Side) (k : ℕ) (way : Option Wing) where
   abbrev c : Color
-  c = x.ground.color
+  c = x.terrain.color
 
   abbrev p : State
   p = x.position
@@ -63,7 +63,7 @@ module _ (d : Placement) (x : Side) (k : ℕ) (way : Option Wing) where
   abbrev pub HasPlan : Measure → Type 0
   HasPlan u = (g : JourneysOf d x way) × IsPaid (facts_of x) d p k c way u g
 
-  -- some plan within so many counts
+  -- some plan within n counts
   abbrev pub HasPaid : Bool → ℕ → Type 0
   HasPaid q n = (g : JourneysOf d x way) × IsPaidBy d x q way n g
 

@@ -21,7 +21,7 @@ use Rattle.pg_journeys.specs.lemmas.PlanTotals.{plan_to_total, total_to_plan}
 use Rattle.pg_journeys.specs.inner.Counting.{counts}
 use Rattle.pg_journeys.specs.inner.Sides.{facts_of, square_at, kind_at, IsSide, JourneysOf, IsPaidBy, MeetsAt, InEnd, AreRooms}
 use Rattle.pg_journeys.specs.inner.Costing.{IsRoom, IsWider, EndsAt, IsRoomRow, AreRoomRows, AreCostsOf}
-use Rattle.pg_journeys.specs.declared.plans.Side.{Side}
+use Rattle.pg_journeys.specs.declared.side.Side.{Side}
 use Rattle.pg_journeys.proofs.CostLemmas.{costs_to}
 
 -- ---- least totals
@@ -179,20 +179,20 @@ module _ (d : Placement) (x : Side) (quiet : Bool) (way : Option Wing) (most pai
   own = costs_to d x quiet way most paid k (omega (arith, e)) costs
 
   abbrev weight : List Leg → ℕ
-  weight ls = weigh (counts (facts_of x) x.ground.color quiet) ls
+  weight ls = weigh (counts (facts_of x) x.terrain.color quiet) ls
 
   abbrev room : ℕ → ℕ → ℕ
   room i e = get_or (get_or rooms i []) e 0
 
   -- what any man on the square of the man i comes to, he does
   at_man : (i : ℕ) (ls : List Leg) (o : Fate) → i < x.men.count →
-      ((h : Kind) → Stands x.position.board x.ground.color h (square_at x.men i) → Meets (facts_of x) d x.position x.ground.color h (square_at x.men i) (counted x.ground.color way (square_at x.men i)) ls o) →
+      ((h : Kind) → Stands x.position.board x.terrain.color h (square_at x.men i) → Meets (facts_of x) d x.position x.terrain.color h (square_at x.men i) (counted x.terrain.color way (square_at x.men i)) ls o) →
       MeetsAt d x way i ls o
   at_man i ls o l m = m (kind_at x.men i) (side.men.kinds i l)
 
   at_any : (i : ℕ) (ls : List Leg) (o : Fate) → i < x.men.count → MeetsAt d x way i ls o →
-      (h : Kind) → Stands x.position.board x.ground.color h (square_at x.men i) → Meets (facts_of x) d x.position x.ground.color h (square_at x.men i) (counted x.ground.color way (square_at x.men i)) ls o
-  at_any i ls o l m h st = subst (λ (y : Kind). Meets (facts_of x) d x.position x.ground.color y (square_at x.men i) (counted x.ground.color way (square_at x.men i)) ls o) (same_kind (side.men.kinds i l) st) m
+      (h : Kind) → Stands x.position.board x.terrain.color h (square_at x.men i) → Meets (facts_of x) d x.position x.terrain.color h (square_at x.men i) (counted x.terrain.color way (square_at x.men i)) ls o
+  at_any i ls o l m h st = subst (λ (y : Kind). Meets (facts_of x) d x.position x.terrain.color y (square_at x.men i) (counted x.terrain.color way (square_at x.men i)) ls o) (same_kind (side.men.kinds i l) st) m
 
   -- columns and ends of a fate
   end_of : (j e : ℕ) (o : Fate) → e < 17 → InColumn (square_at x.goals) x.goals.count j o → EndsAt x.goals.count j e → InEnd x.goals e o
@@ -238,19 +238,19 @@ module _ (d : Placement) (x : Side) (quiet : Bool) (way : Option Wing) (most pai
       let sum : at2 least i b.0 ≡ total (λ a. cost k a (t.0 a)) k.size = t.3 in
       let c : cost k i (t.0 i) ≡ cost k i b.0 = ap (cost k i) t.2 in
       let column : InColumn (square_at x.goals) x.goals.count (t.0 i) o = subst (λ (j : ℕ). InColumn (square_at x.goals) x.goals.count j o) (sym t.2) (column_of b.0 end o at b.2) in
-      let g = total_to_plan (facts_of x) d x.position x.ground.color way (counts (facts_of x) x.ground.color quiet) (square_at x.men) (square_at x.goals) k.size x.goals.count (cost k) paid own t.0 t.1 i (inside i li) o ls column (at_any i ls o li meets) (omega arith) in
-      let pays : total (λ s. weigh (counts (facts_of x) x.ground.color quiet) (g.0.path s)) 64 ≤ paid = g.1 in
+      let g = total_to_plan (facts_of x) d x.position x.terrain.color way (counts (facts_of x) x.terrain.color quiet) (square_at x.men) (square_at x.goals) k.size x.goals.count (cost k) paid own t.0 t.1 i (inside i li) o ls column (at_any i ls o li meets) (omega arith) in
+      let pays : total (λ s. weigh (counts (facts_of x) x.terrain.color quiet) (g.0.path s)) 64 ≤ paid = g.1 in
       (g.0, omega (arith, pays, e), g.2, g.3)
 
   widest : (i e : ℕ) (g : JourneysOf d x way) → i < x.men.count → e < 17 → IsPaidBy d x quiet way most g → InEnd x.goals e (g.fate (square_at x.men i)) →
       (room i e < 255) × (weight (g.path (square_at x.men i)) ≤ room i e)
   widest i end g li le pays at =
-      let all : charge way + total (λ s. weigh (counts (facts_of x) x.ground.color quiet) (g.path s)) 64 ≤ most = pays in
-      let within : total (λ s. weigh (counts (facts_of x) x.ground.color quiet) (g.path s)) 64 ≤ paid = omega (arith, all, e) in
-      let q = plan_to_total (facts_of x) d x.position x.ground.color way (counts (facts_of x) x.ground.color quiet) (square_at x.men) (square_at x.goals) k.size x.goals.count (cost k) paid own g within i (inside i li) in
+      let all : charge way + total (λ s. weigh (counts (facts_of x) x.terrain.color quiet) (g.path s)) 64 ≤ most = pays in
+      let within : total (λ s. weigh (counts (facts_of x) x.terrain.color quiet) (g.path s)) 64 ≤ paid = omega (arith, all, e) in
+      let q = plan_to_total (facts_of x) d x.position x.terrain.color way (counts (facts_of x) x.terrain.color quiet) (square_at x.men) (square_at x.goals) k.size x.goals.count (cost k) paid own g within i (inside i li) in
       let sum : q.3.0 + weight (g.path (square_at x.men i)) ≤ paid + cost k i q.0 = q.3.2 in
       let under : at2 least i q.0 ≤ q.3.0 = below_all k i q.0 (at2 least i q.0) q.3.0 (are i q.0 (inside i li) q.1) q.3.1 in
-      let his : weight (g.path (square_at x.men i)) ≤ total (λ s. weigh (counts (facts_of x) x.ground.color quiet) (g.path s)) 64 = sum_term (λ s. weigh (counts (facts_of x) x.ground.color quiet) (g.path s)) 64 (square_at x.men i) (side.men.listing.low i li) in
+      let his : weight (g.path (square_at x.men i)) ≤ total (λ s. weigh (counts (facts_of x) x.terrain.color quiet) (g.path s)) 64 = sum_term (λ s. weigh (counts (facts_of x) x.terrain.color quiet) (g.path s)) 64 (square_at x.men i) (side.men.listing.low i li) in
       let cheap : cost k i q.0 ≤ weight (g.path (square_at x.men i)) =
       own.least i q.0 (g.fate (square_at x.men i)) (g.path (square_at x.men i)) (kind_at x.men i) (inside i li) q.1 (side.men.kinds i li) q.2
       (g.meets (kind_at x.men i) (square_at x.men i) (side.men.listing.low i li) (side.men.kinds i li)) (omega (arith, his, within)) in

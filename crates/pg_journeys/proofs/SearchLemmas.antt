@@ -1,4 +1,4 @@
--- A search by counts keeps what it says of a count, turn by turn, and ends with all whom so many counts meet.
+-- A search by counts keeps what it says of a count, turn by turn, and ends with all whom that many counts meet.
 use Rattle.std.proofs.Common.{◌≡◌, ℕ, ◌+◌, ◌*◌, ◌/◌, ◌%◌, ◌-◌, ◌<◌, ◌≤◌, ◌⊎◌, ◌↔◌, inl, inr, Bool, true, false, not, ◌||◌, List, sym, ap, subst, arith, ◌∙◌, refl, zero, suc}
 use Rattle.pg_board.specs.Bits.{has}
 use Rattle.pg_board.specs.Tally.{total, one, count_below}

@@ -24,36 +24,37 @@ use Rattle.pg_journeys.specs.inner.Rings.{AreWithin}
 use Rattle.pg_journeys.specs.inner.Needing.{IsReachedIn, IsReachedOf, IsUnreached}
 use Rattle.pg_journeys.specs.inner.Sides.{facts_of, square_at, kind_at, IsSide, EndWithin}
 use Rattle.pg_journeys.specs.declared.facts.Facts.{Facts as FactSets}
-use Rattle.pg_journeys.specs.declared.plans.Side.{Side}
+use Rattle.pg_journeys.specs.declared.side.Side.{Side}
 use Rattle.pg_journeys.proofs.CostLemmas.{path_as}
 use Rattle.pg_journeys.proofs.LastRounds.{is_not}
+use Rattle.pg_journeys.proofs.SideLemmas.{goals_few}
 
 -- ---- one way
 -- the man e of the diagram is among those who come within 199
-to_reached_in : (x : Side) (way : Option Wing) (e i : ℕ) → i < x.men.count → IsWayUnder (facts_of x) x.position x.ground.color way → x.goals.count ≤ 16 → e < x.goals.count →
-    EndWithin x false e 199 (kind_at x.men i) (counted x.ground.color way (square_at x.men i)) → IsReachedIn x way e
+to_reached_in : (x : Side) (way : Option Wing) (e i : ℕ) → i < x.men.count → IsWayUnder (facts_of x) x.position x.terrain.color way → x.goals.count ≤ 16 → e < x.goals.count →
+    EndWithin x false e 199 (kind_at x.men i) (counted x.terrain.color way (square_at x.men i)) → IsReachedIn x way e
 to_reached_in x way e i li is_open few goal (inl (_, (ls, path, short))) =
-    (is_open, i, li, ls, path, (let same : weigh (counts (facts_of x) x.ground.color false) ls ≡ length ls = weigh_length ls in omega (arith, same, short)))
+    (is_open, i, li, ls, path, (let same : weigh (counts (facts_of x) x.terrain.color false) ls ≡ length ls = weigh_length ls in omega (arith, same, short)))
 to_reached_in x way e i li is_open few goal (inr (last, _, _)) = absurd (omega arith)
 
-pub found_in : (d : Placement) (x : Side) (way : Option Wing) (e i set s : ℕ) (k : Kind) (sets : List ℕ) (b : Bool) → IsSide d x → e < x.goals.count → i < x.men.count → IsWayUnder (facts_of x) x.position x.ground.color way →
-    AreWithin (EndWithin x false e) 199 sets → k ≡ kind_at x.men i → set ≡ of_kind sets k → s ≡ counted x.ground.color way (square_at x.men i) → s < 64 → b ≡ has set s → b ≡ true → IsReachedIn x way e
-found_in d x way e i set s k sets b side goal li is_open within ek es at low is on =
-    to_reached_in x way e i li is_open side.goals.few goal
+pub found_in : (x : Side) (way : Option Wing) (e i set s : ℕ) (k : Kind) (sets : List ℕ) (b : Bool) → e < x.goals.count → i < x.men.count → IsWayUnder (facts_of x) x.position x.terrain.color way →
+    AreWithin (EndWithin x false e) 199 sets → k ≡ kind_at x.men i → set ≡ of_kind sets k → s ≡ counted x.terrain.color way (square_at x.men i) → s < 64 → b ≡ has set s → b ≡ true → IsReachedIn x way e
+found_in x way e i set s k sets b goal li is_open within ek es at low is on =
+    to_reached_in x way e i li is_open (goals_few x) goal
     (subst (λ (y : ℕ). EndWithin x false e 199 (kind_at x.men i) y) at (subst (λ (y : Kind). EndWithin x false e 199 y s) ek ((within k s low).0 (subst (λ (y : ℕ). has y s ≡ true) es (sym is ∙ on)))))
 
 -- the man i is not within 199 of it
 abbrev pub IsFar : Side → Option Wing → ℕ → ℕ → Type 0
-IsFar x way e i = EndWithin x false e 199 (kind_at x.men i) (counted x.ground.color way (square_at x.men i)) → ⊥
+IsFar x way e i = EndWithin x false e 199 (kind_at x.men i) (counted x.terrain.color way (square_at x.men i)) → ⊥
 
 pub far_next : (x : Side) (way : Option Wing) (e i set s : ℕ) (k : Kind) (sets : List ℕ) (b : Bool) → AreWithin (EndWithin x false e) 199 sets → k ≡ kind_at x.men i → set ≡ of_kind sets k →
-    s ≡ counted x.ground.color way (square_at x.men i) → s < 64 → b ≡ has set s → b ≡ false → ((j : ℕ) → j < i → IsFar x way e j) → (j : ℕ) → j < i + 1 → IsFar x way e j
+    s ≡ counted x.terrain.color way (square_at x.men i) → s < 64 → b ≡ has set s → b ≡ false → ((j : ℕ) → j < i → IsFar x way e j) → (j : ℕ) → j < i + 1 → IsFar x way e j
 far_next x way e i set s k sets b within ek es at low is off before j l w = elim (cases_lt j i) [
   | inl less ↦ before j less w
   | inr more ↦
       (let same : j ≡ i = omega arith in
-      let here : EndWithin x false e 199 k s = subst (λ (y : ℕ). EndWithin x false e 199 k y) (sym at) (subst (λ (y : Kind). EndWithin x false e 199 y (counted x.ground.color way (square_at x.men i))) (sym ek)
-      (subst (λ (y : ℕ). EndWithin x false e 199 (kind_at x.men y) (counted x.ground.color way (square_at x.men y))) same w)) in
+      let here : EndWithin x false e 199 k s = subst (λ (y : ℕ). EndWithin x false e 199 k y) (sym at) (subst (λ (y : Kind). EndWithin x false e 199 y (counted x.terrain.color way (square_at x.men i))) (sym ek)
+      (subst (λ (y : ℕ). EndWithin x false e 199 (kind_at x.men y) (counted x.terrain.color way (square_at x.men y))) same w)) in
       let on : has (of_kind sets k) s ≡ true = (within k s low).1 here in
       let out : has (of_kind sets k) s ≡ false = subst (λ (y : ℕ). has y s ≡ false) es (sym is ∙ off) in
       absurd (cc))
@@ -61,7 +62,7 @@ far_next x way e i set s k sets b within ek es at low is off before j l w = elim
 
 pub none_in : (x : Side) (way : Option Wing) (e : ℕ) → e < x.goals.count → ((i : ℕ) → i < x.men.count → IsFar x way e i) → ¬ IsReachedIn x way e
 none_in x way e goal none (is_open, i, li, ls, path, short) =
-    let same : weigh (counts (facts_of x) x.ground.color false) ls ≡ length ls = weigh_length ls in
+    let same : weigh (counts (facts_of x) x.terrain.color false) ls ≡ length ls = weigh_length ls in
     none i li (inl (goal, (ls, path, omega arith)))
 
 pub is_so : {A : Type 0} → A → IsTrue true ↔ A
@@ -70,7 +71,7 @@ is_so a = (λ t. a, λ h. refl)
 pub is_not_so : {A : Type 0} → ¬ A → IsTrue false ↔ A
 is_not_so out = (λ t. absurd (cc), λ h. absurd (out h))
 
-pub closed_way : (x : Side) (way : Option Wing) (e : ℕ) (r : Bool) → IsTrue r ↔ IsWayUnder (facts_of x) x.position x.ground.color way → r ≡ false → IsTrue false ↔ IsReachedIn x way e
+pub closed_way : (x : Side) (way : Option Wing) (e : ℕ) (r : Bool) → IsTrue r ↔ IsWayUnder (facts_of x) x.position x.terrain.color way → r ≡ false → IsTrue false ↔ IsReachedIn x way e
 closed_way x way e r is off = is_not_so (λ h. is_not r is off h.0)
 
 -- ---- all ways
@@ -89,17 +90,17 @@ next_reached x e m next before here j low = elim (cases_lt j e) [
 ]
 
 -- ---- of the position and the diagram
-to_reached : (d : Placement) (x : Side) (e : ℕ) → IsSide d x → IsReachedOf x e → IsReached 199 (facts_of x) x.position x.ground.color (kind_at x.goals e) (square_at x.goals e)
+to_reached : (d : Placement) (x : Side) (e : ℕ) → IsSide d x → IsReachedOf x e → IsReached 199 (facts_of x) x.position x.terrain.color (kind_at x.goals e) (square_at x.goals e)
 to_reached d x e side (way, (is_open, i, li, ls, path, short)) = (way, is_open, kind_at x.men i, square_at x.men i, side.men.listing.low i li, side.men.kinds i li, ls, path, short)
 
-of_reached : (d : Placement) (x : Side) (e : ℕ) → IsSide d x → IsReached 199 (facts_of x) x.position x.ground.color (kind_at x.goals e) (square_at x.goals e) → IsReachedOf x e
+of_reached : (d : Placement) (x : Side) (e : ℕ) → IsSide d x → IsReached 199 (facts_of x) x.position x.terrain.color (kind_at x.goals e) (square_at x.goals e) → IsReachedOf x e
 of_reached d x e side (way, is_open, k, s, low, stands, ls, path, short) =
     let at : (i : ℕ) × (i < x.men.count) × (square_at x.men i ≡ s) = side.men.listing.listed k s low stands in
-    let here : Stands x.position.board x.ground.color (kind_at x.men at.0) s = subst (λ (y : ℕ). Stands x.position.board x.ground.color (kind_at x.men at.0) y) at.2 (side.men.kinds at.0 at.1) in
+    let here : Stands x.position.board x.terrain.color (kind_at x.men at.0) s = subst (λ (y : ℕ). Stands x.position.board x.terrain.color (kind_at x.men at.0) y) at.2 (side.men.kinds at.0 at.1) in
     let same : k ≡ kind_at x.men at.0 = same_kind stands here in
-    let from_here : IsPath (facts_of x) x.ground.color k (counted x.ground.color way (square_at x.men at.0)) ls (kind_at x.goals e) (square_at x.goals e) =
-    subst (λ (y : ℕ). IsPath (facts_of x) x.ground.color k (counted x.ground.color way y) ls (kind_at x.goals e) (square_at x.goals e)) (sym at.2) path in
-    (way, (is_open, at.0, at.1, ls, path_as (facts_of x) x.ground.color k (kind_at x.men at.0) (counted x.ground.color way (square_at x.men at.0)) ls (kind_at x.goals e) (kind_at x.goals e) (square_at x.goals e) (square_at x.goals e) same refl refl from_here, short))
+    let from_here : IsPath (facts_of x) x.terrain.color k (counted x.terrain.color way (square_at x.men at.0)) ls (kind_at x.goals e) (square_at x.goals e) =
+    subst (λ (y : ℕ). IsPath (facts_of x) x.terrain.color k (counted x.terrain.color way y) ls (kind_at x.goals e) (square_at x.goals e)) (sym at.2) path in
+    (way, (is_open, at.0, at.1, ls, path_as (facts_of x) x.terrain.color k (kind_at x.men at.0) (counted x.terrain.color way (square_at x.men at.0)) ls (kind_at x.goals e) (kind_at x.goals e) (square_at x.goals e) (square_at x.goals e) same refl refl from_here, short))
 
 -- a man of the diagram who is not reached, or each is
 abbrev pub Tells : Placement → Facts → State → Color → Option ℕ → Type 0
@@ -107,23 +108,23 @@ Tells d f p c o =
     MatchOption o ((j : Kind) (t : ℕ) → t < 64 → Stands d c j t → IsReached 199 f p c j t)
     (λ t. (t < 64) × (j : Kind) × Stands d c j t × ¬ IsReached 199 f p c j t)
 
-of_side : (d : Placement) (x : Side) (o : Option ℕ) → IsSide d x → IsUnreached x o → Tells d (facts_of x) x.position x.ground.color o
+of_side : (d : Placement) (x : Side) (o : Option ℕ) → IsSide d x → IsUnreached x o → Tells d (facts_of x) x.position x.terrain.color o
 of_side d x None side all = λ j t low stands.
     let at : (e : ℕ) × (e < x.goals.count) × (square_at x.goals e ≡ t) = side.goals.listing.listed j t low stands in
-    let there : Stands d x.ground.color (kind_at x.goals at.0) t = subst (λ (y : ℕ). Stands d x.ground.color (kind_at x.goals at.0) y) at.2 (side.goals.kinds at.0 at.1) in
+    let there : Stands d x.terrain.color (kind_at x.goals at.0) t = subst (λ (y : ℕ). Stands d x.terrain.color (kind_at x.goals at.0) y) at.2 (side.goals.kinds at.0 at.1) in
     let same : kind_at x.goals at.0 ≡ j = same_kind there stands in
-    subst (λ (y : Kind). IsReached 199 (facts_of x) x.position x.ground.color y t) same
-    (subst (λ (y : ℕ). IsReached 199 (facts_of x) x.position x.ground.color (kind_at x.goals at.0) y) at.2 (to_reached d x at.0 side (all at.0 at.1)))
+    subst (λ (y : Kind). IsReached 199 (facts_of x) x.position x.terrain.color y t) same
+    (subst (λ (y : ℕ). IsReached 199 (facts_of x) x.position x.terrain.color (kind_at x.goals at.0) y) at.2 (to_reached d x at.0 side (all at.0 at.1)))
 of_side d x (Some t) side (e, low, here, not) = (
   subst (λ (y : ℕ). y < 64) here (side.goals.listing.low e low),
   kind_at x.goals e,
-  subst (λ (y : ℕ). Stands d x.ground.color (kind_at x.goals e) y) here (side.goals.kinds e low),
-  λ h. not (of_reached d x e side (subst (λ (y : ℕ). IsReached 199 (facts_of x) x.position x.ground.color (kind_at x.goals e) y) (sym here) h)),
+  subst (λ (y : ℕ). Stands d x.terrain.color (kind_at x.goals e) y) here (side.goals.kinds e low),
+  λ h. not (of_reached d x e side (subst (λ (y : ℕ). IsReached 199 (facts_of x) x.position x.terrain.color (kind_at x.goals e) y) (sym here) h)),
 )
 
-pub tells_here : (d : Placement) (x : Side) (f : FactSets) (p : State) (c : Color) (o : Option ℕ) → x.position ≡ p → x.ground.facts ≡ f → x.ground.color ≡ c → IsSide d x → IsUnreached x o → Tells d (known f) p c o
+pub tells_here : (d : Placement) (x : Side) (f : FactSets) (p : State) (c : Color) (o : Option ℕ) → x.position ≡ p → x.terrain.facts ≡ f → x.terrain.color ≡ c → IsSide d x → IsUnreached x o → Tells d (known f) p c o
 tells_here d x f p c o ep ef ec side h =
-    subst (λ (z : Color). Tells d (known f) p z o) ec (subst (λ (z : State). Tells d (known f) z x.ground.color o) ep (subst (λ (z : FactSets). Tells d (known z) x.position x.ground.color o) ef (of_side d x o side h)))
+    subst (λ (z : Color). Tells d (known f) p z o) ec (subst (λ (z : State). Tells d (known f) z x.terrain.color o) ep (subst (λ (z : FactSets). Tells d (known z) x.position x.terrain.color o) ef (of_side d x o side h)))
 
 pub tells_some : (d : Placement) (f : Facts) (p : State) (c : Color) (o : Option ℕ) → Tells d f p c o → IfSome o (λ t. (t < 64) × (j : Kind) × Stands d c j t × ¬ IsReached 199 f p c j t)
 tells_some d f p c None h = tt

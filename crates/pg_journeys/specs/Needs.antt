@@ -34,7 +34,7 @@ abbrev pub IsLeastNeed : ℕ → Facts → Placement → State → Color → Mea
 IsLeastNeed most f d p c u o = IsLeast (λ n. (n ≤ most) × AreEnough f d p c u n) o
 
 -- ---- who is reached
--- in some way a man of c comes to be of kind j on t, by a path of at most so many steps
+-- in some way a man of c comes to be of kind j on t, by a path of at most `most` steps
 abbrev pub IsReached : ℕ → Facts → State → Color → Kind → ℕ → Type 0
 IsReached most f p c j t =
     (way : Option Wing) × IsWayUnder f p c way × (k : Kind) × (s : ℕ) × (s < 64) × Stands p.board c k s × (ls : List Leg)

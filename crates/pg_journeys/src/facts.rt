@@ -1,5 +1,5 @@
 //! Facts on the games that are left, as sets of squares.
-ghost use Rattle.std.specs.Prelude.{◌≡◌, ℕ, ◌<◌, ◌≤◌};
+ghost use Rattle.std.specs.Prelude.{◌≡◌, ◌<◌, ◌≤◌};
 ghost use Rattle.pg_board.specs.SquareSets.{IsSetOf};
 ghost use Rattle.pg_board.specs.Squares.{rank as rank_of};
 ghost use Rattle.pg_journeys.specs.FirstFacts.{IsWallOf};

@@ -1,5 +1,5 @@
 //! The ground of a colour's steps under facts: what stops them, where its captures may land, and tables of steps.
-ghost use Rattle.std.specs.Prelude.{◌≡◌, ◌≢◌, ℕ, ◌<◌, ◌↔◌, true, false, Some, None};
+ghost use Rattle.std.specs.Prelude.{◌≡◌, ◌≢◌, ℕ, ◌<◌, ◌↔◌, false, Some, None};
 ghost use Rattle.pg_board.specs.Bits.{has};
 ghost use Rattle.pg_board.specs.Placement.{get};
 ghost use Rattle.pg_board.specs.Squares.{file};

@@ -1,46 +1,30 @@
 //! What is known beforehand of the paths of men to those of a diagram, under the facts that its first round may have.
-ghost use Rattle.std.specs.Prelude.{◌≡◌, ℕ, ◌<◌, ◌≤◌, IsTrue, IfSome, IfOk, OnOk, All, true, false};
+ghost use Rattle.std.specs.Prelude.{◌≡◌, ◌<◌, ◌≤◌, IsTrue, IfSome, IfOk, true, false};
 ghost use Rattle.pg_board.specs.Placement.{Placement};
-ghost use Rattle.pg_board.specs.declared.man.Color.{Color as AnyColor};
-ghost use Rattle.pg_captures.specs.Counting.{men, any_man};
-ghost use Rattle.pg_journeys.specs.inner.Grounds.{HasSteps, IsGround};
-ghost use Rattle.pg_journeys.specs.inner.Knowing.{IsKnown, HasFewMen};
-ghost use Rattle.pg_journeys.specs.inner.Sides.{AreAims, AreMen, AreSameMen, IsLike, IsSide};
+ghost use Rattle.pg_captures.specs.Counting.{men};
+ghost use Rattle.pg_journeys.specs.inner.Grounds.{HasSteps};
+ghost use Rattle.pg_journeys.specs.inner.Knowing.{HasFewMen};
+ghost use Rattle.pg_journeys.specs.inner.Sides.{AreAims, AreSameMen, IsLike};
 
 use crate::facts::{Facts, walls};
-use crate::ground::{Ground, ground_of, steps_table};
+use crate::ground::{ground_of, steps_table};
+use crate::known_paths::KnownPaths;
 use crate::men::{Men, men_without};
-use crate::plans::{Aims, Side, fill_ends};
+use crate::plans::fill_ends;
 use crate::rings::Rings;
+use crate::side::Side;
 use pg_board::{Board, Color, Square, SquareSet};
 use pg_captures::all_men;
 use pg_fen::Diagram;
 use std::alloc::{AllocError, Global};
 use std::marker::Model;
 
-// The ground of a colour's steps under some facts, men of a diagram, and for each of these and for being captured the
-// rings of the paths to it: by moves, and by quiet moves.
-#[derive(Drop)]
-pub(crate) struct Known {
-    pub(crate) ground: Ground,
-    pub(crate) goals: Men,
-    pub(crate) moves: Aims,
-    pub(crate) quiet: Aims,
-}
-
-// What is given of steps and paths under facts: the table of steps, and what is known beforehand.
-#[derive(Clone, Copy)]
-pub(crate) struct Given<'a> {
-    pub(crate) table: &'a [SquareSet; 384],
-    pub(crate) known: &'a [Known],
-}
-
 // How far rings go that are made beforehand: twelve are kept.
 const FAR: u8 = 11;
 
 // Adds what is known of a colour under facts. Who stands on a still square is left out.
 fn add_color(
-    known: &mut Vec<Known>,
+    known: &mut Vec<KnownPaths>,
     goal: &Board,
     facts: &Facts,
     color: Color,
@@ -48,8 +32,6 @@ fn add_color(
 ) -> Result<(), AllocError>
     requires steps { HasSteps facts.now.still table.now }
     requires few { HasFewMen goal.now }
-    requires known { All IsKnown known.old.items }
-    ensures { OnOk result (All IsKnown known.new.items) }
 {
     let ground = ground_of(facts, color, table);
     let goals = men_without(goal, color, facts.still);
@@ -59,8 +41,8 @@ fn add_color(
     fill_ends(&ground, &goals, true, false, FAR, &mut moves);
     let mut quiet = [Rings::none(); 17];
     fill_ends(&ground, &goals, true, true, FAR, &mut quiet);
-    known.push(Known {
-        ground,
+    known.push(KnownPaths {
+        terrain: ground,
         goals,
         moves,
         quiet,
@@ -70,15 +52,13 @@ fn add_color(
 
 // Adds what is known of both colours where these squares are still and captures of either colour land on these.
 fn add_both(
-    known: &mut Vec<Known>,
+    known: &mut Vec<KnownPaths>,
     goal: &Board,
     facts: &Facts,
     table: &[SquareSet; 384],
 ) -> Result<(), AllocError>
     requires steps { HasSteps facts.now.still table.now }
     requires few { HasFewMen goal.now }
-    requires known { All IsKnown known.old.items }
-    ensures { OnOk result (All IsKnown known.new.items) }
 {
     add_color(known, goal, facts, Color::White, table)?;
     add_color(known, goal, facts, Color::Black, table)
@@ -86,10 +66,8 @@ fn add_both(
 
 // Adds what is known under each facts that a first round may have: walls are still, and captures of either colour
 // land anywhere else or nowhere.
-fn add_all(known: &mut Vec<Known>, goal: &Board) -> Result<(), AllocError>
+fn add_all(known: &mut Vec<KnownPaths>, goal: &Board) -> Result<(), AllocError>
     requires few { HasFewMen goal.now }
-    requires known { All IsKnown known.old.items }
-    ensures { OnOk result (All IsKnown known.new.items) }
 {
     let still = walls(goal);
     let table = steps_table(still);
@@ -146,29 +124,25 @@ pub(crate) fn same_color(one: Color, other: Color) -> bool
     }
 }
 
-// Whether what is known serves for a side.
-fn serves(known: &Known, side: &Side) -> bool
-    requires known { IsKnown known.now }
-    requires side { (d : Placement) × IsSide d side.now }
-    ensures { IsTrue result → IsLike side.now known.now.ground known.now.goals }
+// Whether these are paths of a side: of its colour, under its facts, to its men of the diagram.
+fn are_of(known: &KnownPaths, side: &Side) -> bool
+    ensures { IsTrue result → IsLike side.now known.now.terrain known.now.goals }
 {
-    if !same_color(side.ground.color, known.ground.color) {
+    if !same_color(side.terrain.color, known.terrain.color) {
         return false;
     }
-    if side.ground.facts == known.ground.facts {
+    if side.terrain.facts == known.terrain.facts {
         return same_men(&side.goals, &known.goals);
     }
     false
 }
 
-// What is known that serves for a side.
-pub(crate) fn known_for<'a>(known: &'a [Known], side: &Side) -> Option<&'a Known>
-    requires known { All IsKnown known.now }
-    requires side { (d : Placement) × IsSide d side.now }
+// The paths of a side, if they are known.
+pub(crate) fn known_for<'a>(known: &'a [KnownPaths], side: &Side) -> Option<&'a KnownPaths>
     ensures { IfSome result (λ k. AreAims side.now false k.now.moves × AreAims side.now true k.now.quiet) }
 {
     for one in known {
-        if serves(one, side) {
+        if are_of(one, side) {
             return Some(one);
         }
     }
@@ -176,13 +150,12 @@ pub(crate) fn known_for<'a>(known: &'a [Known], side: &Side) -> Option<&'a Known
 }
 
 // The table of steps where these squares are still, if that is known.
-pub(crate) fn known_steps<'a>(known: &'a [Known], still: SquareSet) -> Option<&'a [SquareSet; 384]>
-    requires { All IsKnown known.now }
+pub(crate) fn known_steps(known: &[KnownPaths], still: SquareSet) -> Option<&[SquareSet; 384]>
     ensures { IfSome result (λ table. HasSteps still table.now) }
 {
     for one in known {
-        if one.ground.facts.still == still {
-            return Some(&one.ground.table);
+        if one.terrain.facts.still == still {
+            return Some(&one.terrain.table);
         }
     }
     None
@@ -194,22 +167,18 @@ pub(crate) fn known_steps<'a>(known: &'a [Known], still: SquareSet) -> Option<&'
 #[derive(Drop)]
 pub struct FirstAims {
     goal: Board,
-    known: Vec<Known>,
+    known: Vec<KnownPaths>,
 }
 
 impl Model for FirstAims {
-    ghost use Rattle.std.specs.Prelude.{All};
     ghost use Rattle.pg_board.specs.Placement.{Placement};
     ghost use Rattle.pg_board.specs.lemmas.Codes.{placement_code};
-    ghost use Rattle.pg_journeys.specs.inner.Knowing.{IsKnown};
 
     ghost Value = { Placement };
 
     ghost coded = { placement_code };
 
     ghost view = { λ a. a.goal };
-
-    ghost invariant = { λ a. All IsKnown a.known.items };
 }
 
 impl FirstAims {
@@ -229,9 +198,7 @@ impl FirstAims {
     }
 
     // What is known.
-    pub(crate) fn known(&self) -> &[Known]
-        ensures { All IsKnown result.now }
-    {
+    pub(crate) fn known(&self) -> &[KnownPaths] {
         self.known.as_slice()
     }
 }

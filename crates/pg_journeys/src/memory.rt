@@ -1,5 +1,5 @@
 //! What the plans of colours have shown, and tables of steps: remembered for when the same is asked again.
-ghost use Rattle.std.specs.Prelude.{◌≡◌, ℕ, ◌<◌, ◌≤◌, ◌↔◌, IsTrue, IfSome, IfNone, IfOk, Some, All, true, false};
+ghost use Rattle.std.specs.Prelude.{◌≡◌, ℕ, ◌<◌, ◌↔◌, IsTrue, IfSome, IfNone, IfOk, Some, All, true, false};
 ghost use Rattle.pg_board.specs.Bits.{has};
 ghost use Rattle.pg_board.specs.Men.{other};
 ghost use Rattle.pg_board.specs.Placement.{Placement};
@@ -7,20 +7,23 @@ ghost use Rattle.pg_board.specs.declared.man.Kind.{Kind as KindOfMan};
 ghost use Rattle.pg_position.specs.Position.{Stands, holds};
 ghost use Rattle.pg_position.specs.Squares.{ahead};
 ghost use Rattle.pg_position.specs.declared.rights.Wing.{Wing as AnyWing};
-ghost use Rattle.pg_captures.specs.Counting.{men, any_man};
+ghost use Rattle.pg_captures.specs.Counting.{men};
 ghost use Rattle.pg_captures.specs.Owed.{plies_left as plies_of, victims};
 ghost use Rattle.pg_journeys.specs.Journeys.{HasPassed};
 ghost use Rattle.pg_journeys.specs.Known.{landing};
 ghost use Rattle.pg_journeys.specs.Rounds.{JourneysHold};
 ghost use Rattle.pg_journeys.specs.inner.Grounds.{HasSteps};
-ghost use Rattle.pg_journeys.specs.inner.Knowing.{IsKnown};
-ghost use Rattle.pg_journeys.specs.inner.Remembering.{AreAlike, AreSteps, IsAnswer, IsRemembered};
+ghost use Rattle.pg_journeys.specs.inner.Courses.{IsShownOn};
+ghost use Rattle.pg_journeys.specs.inner.Remembering.{AreAlike, IsAnswer, IsRemembered};
 
+use crate::course::Course;
 use crate::facts::Facts;
 use crate::ground::steps_table;
-use crate::known::{FirstAims, Given, same_color};
+use crate::known::{FirstAims, same_color};
+use crate::round::Round;
 use crate::rounds::facts_by;
 use crate::shown::{Shown, shown_of};
+use crate::steps::Steps;
 use pg_board::{Color, Square, SquareSet};
 use pg_captures::{plies_left, victims_of};
 use pg_fen::Diagram;
@@ -33,7 +36,7 @@ const MOST_CASES: usize = 16_384;
 
 const MOST_TABLES: usize = 64;
 
-// What is asked of a colour: what its plans show in so many plies from a position, under facts.
+// What is asked of a colour: what its plans show in `left` plies from a position, under facts.
 #[derive(Clone, Copy)]
 pub(crate) struct Case {
     pub(crate) position: Position,
@@ -48,13 +51,6 @@ pub(crate) struct Remembered {
     pub(crate) case: Case,
     pub(crate) shown: Option<Shown>,
     pub(crate) is_told: bool,
-}
-
-// The table of steps where these squares are still.
-#[derive(Clone, Copy)]
-pub(crate) struct Steps {
-    pub(crate) still: SquareSet,
-    pub(crate) table: [SquareSet; 384],
 }
 
 // What says nothing.
@@ -217,31 +213,26 @@ fn remember(shown: &mut [Remembered], place: usize, case: &Case, answer: &Option
 // What the plans of a colour show, as `shown_of` has it: as it is remembered, or found and remembered.
 pub(crate) fn shown_in(
     shown: &mut [Remembered],
-    diagram: &Diagram,
-    case: &Case,
-    given: &Given<'_>,
+    course: &Course<'_>,
+    round: &Round<'_>,
+    color: Color,
 ) -> Option<Shown>
-    requires steps { HasSteps case.now.facts.still given.now.table.now }
-    requires known { All IsKnown given.now.known.now }
-    requires few { men case.now.color any_man case.now.position.board ≤ 16 }
-    requires room { men case.now.color any_man diagram.now ≤ men case.now.color any_man case.now.position.board }
-    requires remembered { All (IsRemembered diagram.now) shown.old }
-    ensures answer { IsAnswer diagram.now case.now result }
-    ensures remembered { All (IsRemembered diagram.now) shown.new }
+    requires { All (IsRemembered course.now.diagram.now) shown.old }
+    ensures answer { IsShownOn course.now round.now.facts color result }
+    ensures remembered { All (IsRemembered course.now.diagram.now) shown.new }
 {
-    let place = place_of(case);
-    if let Some(kept) = recall(shown, place, case) {
+    let case = Case {
+        position: *course.position,
+        left: course.left,
+        facts: round.facts,
+        color,
+    };
+    let place = place_of(&case);
+    if let Some(kept) = recall(shown, place, &case) {
         return kept.shown;
     }
-    let answer = shown_of(
-        diagram,
-        &case.position,
-        case.left,
-        &case.facts,
-        case.color,
-        given,
-    );
-    remember(shown, place, case, &answer);
+    let answer = shown_of(course, round, color);
+    remember(shown, place, &case, &answer);
     answer
 }
 
@@ -251,8 +242,7 @@ fn place_of_steps(still: SquareSet) -> usize {
 }
 
 // The table of steps that is remembered at a place, where these squares are still.
-fn find_steps<'a>(steps: &'a [Steps], place: usize, still: SquareSet) -> Option<&'a Steps>
-    requires { All AreSteps steps.now }
+fn find_steps(steps: &[Steps], place: usize, still: SquareSet) -> Option<&Steps>
     ensures { IfSome result (λ kept. HasSteps still kept.now.table) }
 {
     if place < steps.len() && steps[place].still == still {
@@ -262,35 +252,36 @@ fn find_steps<'a>(steps: &'a [Steps], place: usize, still: SquareSet) -> Option<
 }
 
 // Remembers a table at a place, if there is one, in the place of what was remembered there.
-fn remember_steps(steps: &mut [Steps], place: usize, still: SquareSet, table: &[SquareSet; 384])
-    requires steps { HasSteps still table.now }
-    requires remembered { All AreSteps steps.old }
-    ensures { All AreSteps steps.new }
-{
+fn remember_steps(steps: &mut [Steps], place: usize, found: &Steps) {
     if place < steps.len() {
-        steps[place] = Steps {
-            still,
-            table: *table,
-        };
+        steps[place] = *found;
+    }
+}
+
+// The steps where these squares are still.
+fn steps_of(still: SquareSet) -> Steps
+    ensures { result.still ≡ still }
+{
+    Steps {
+        still,
+        table: steps_table(still),
     }
 }
 
 // The table of steps where these squares are still: as it is remembered, or made and remembered.
 pub(crate) fn steps_in(steps: &mut [Steps], still: SquareSet) -> [SquareSet; 384]
-    requires { All AreSteps steps.old }
-    ensures steps { HasSteps still result }
-    ensures remembered { All AreSteps steps.new }
+    ensures { HasSteps still result }
 {
     let place = place_of_steps(still);
     if let Some(kept) = find_steps(steps, place, still) {
         return kept.table;
     }
-    let table = steps_table(still);
-    remember_steps(steps, place, still, &table);
-    table
+    let found = steps_of(still);
+    remember_steps(steps, place, &found);
+    found.table
 }
 
-// Room for so many cases, of which none is told yet.
+// Room for `count` cases, of which none is told yet.
 #[tactic(auto, using(crate::proofs::MemoryLemmas::all_untold))]
 fn room_for_cases(alloc: Global, count: usize) -> Result<Vec<Remembered>, AllocError>
     ensures { IfOk result (λ room. (d : Placement) → All (IsRemembered d) room.items) }
@@ -302,22 +293,9 @@ fn room_for_cases(alloc: Global, count: usize) -> Result<Vec<Remembered>, AllocE
     Ok(room)
 }
 
-// The steps where no square is still.
-fn open_steps() -> Steps
-    ensures { AreSteps result }
-{
-    let still = SquareSet::empty();
-    Steps {
-        still,
-        table: steps_table(still),
-    }
-}
-
 // Room for tables, each of which is the one where no square is still.
-fn room_for_steps(alloc: Global) -> Result<Vec<Steps>, AllocError>
-    ensures { IfOk result (λ room. All AreSteps room.items) }
-{
-    let steps = open_steps();
+fn room_for_steps(alloc: Global) -> Result<Vec<Steps>, AllocError> {
+    let steps = steps_of(SquareSet::empty());
     // For the borrow checker, which wants the type of squares told.
     let _first: SquareSet = steps.table[0];
     let room = Vec::from_elem(alloc, steps, MOST_TABLES)?;
@@ -339,7 +317,7 @@ impl Model for Memory {
     ghost use Rattle.std.specs.Prelude.{All};
     ghost use Rattle.pg_board.specs.Placement.{Placement};
     ghost use Rattle.pg_board.specs.lemmas.Codes.{placement_code};
-    ghost use Rattle.pg_journeys.specs.inner.Remembering.{AreSteps, IsRemembered};
+    ghost use Rattle.pg_journeys.specs.inner.Remembering.{IsRemembered};
 
     ghost Value = { Placement };
 
@@ -347,7 +325,7 @@ impl Model for Memory {
 
     ghost view = { λ m. m.diagram };
 
-    ghost invariant = { λ m. All (IsRemembered m.diagram) m.shown.items × All AreSteps m.steps.items };
+    ghost invariant = { λ m. All (IsRemembered m.diagram) m.shown.items };
 }
 
 impl Memory {

@@ -4,21 +4,20 @@ ghost use Rattle.std.specs.Prelude.{◌≡◌, ℕ, ◌<◌, ◌≤◌, ◌↔�
 ghost use Rattle.pg_board.specs.Bits.{has};
 ghost use Rattle.pg_board.specs.Men.{other};
 ghost use Rattle.pg_board.specs.declared.man.Kind.TheVariants.{Pawn};
-ghost use Rattle.pg_board.specs.Placement.{Placement};
 ghost use Rattle.pg_board.specs.SquareSets.{IsSetOf};
 ghost use Rattle.pg_journeys.specs.Known.{landing};
-ghost use Rattle.pg_journeys.specs.inner.Grounds.{IsGround};
 ghost use Rattle.pg_journeys.specs.inner.Reached.{IsReach};
-ghost use Rattle.pg_journeys.specs.inner.Showing.{IsMeasured};
-ghost use Rattle.pg_journeys.specs.inner.Sides.{facts_of, IsSide, IsEnd, AreAims, AreRooms};
-ghost use Rattle.pg_journeys.specs.inner.Deeds.{AreDeeds};
+ghost use Rattle.pg_journeys.specs.inner.Showing.{HasRooms};
+ghost use Rattle.pg_journeys.specs.inner.Sides.{facts_of, IsEnd, AreAims};
+ghost use Rattle.pg_journeys.specs.inner.Deeds.{HasDeeds};
 ghost use Rattle.pg_journeys.specs.inner.Narrowed.{IsInBoth, AreEnds, TakesTo, TakesToSome, StandsBy, FallsBy, ComesBy};
 ghost use Rattle.pg_journeys.specs.inner.Narrowed.{TakesBack, ComesBack, ChangesBy, IsFull};
 
-use crate::plans::{Aims, Side, Walker, aim_within, man_of, passed_square};
+use crate::measured::Measured;
+use crate::plans::{Aims, Walker, aim_within, man_of, passed_square};
 use crate::rings::{Reach, Runner, reach_of, stands_within, takes_within};
 use crate::rooms::Rooms;
-use crate::shown::Measured;
+use crate::side::Side;
 use pg_board::{Kind, SquareSet};
 use pg_position::Wing;
 
@@ -57,17 +56,16 @@ fn last_taking(reach: &Reach, room: u8) -> u8
 
 // The squares where captures of a man land on his way to an end, within a room.
 fn lands_to(side: &Side, man: &Runner, reach: &Reach, aims: &Aims, e: usize, room: u8) -> SquareSet
-    requires side { (d : Placement) × IsSide d side.now }
     requires end { IsEnd side.now e }
     requires low { room < 200 }
-    requires reach { IsReach (facts_of side.now) side.now.ground.color man.now reach.now }
+    requires reach { IsReach (facts_of side.now) side.now.terrain.color man.now reach.now }
     requires aims { AreAims side.now man.now.is_quiet aims.now }
     ensures { IsSetOf result (TakesTo side.now man.now e room) }
 {
     let mut all = SquareSet::empty();
     let last = last_taking(reach, room);
     for i in 0..last + 1 {
-        let taken = takes_within(&side.ground, man, reach, i);
+        let taken = takes_within(&side.terrain, man, reach, i);
         let rest = aim_within(side, man.is_quiet, aims, e, room - i);
         all = all | in_both(&taken, &rest);
     }
@@ -83,9 +81,8 @@ fn lands_of(
     rooms: &[u8; 17],
     lands: SquareSet,
 ) -> SquareSet
-    requires side { (d : Placement) × IsSide d side.now }
     requires ends { AreEnds side.now rooms.now }
-    requires reach { IsReach (facts_of side.now) side.now.ground.color man.now reach.now }
+    requires reach { IsReach (facts_of side.now) side.now.terrain.color man.now reach.now }
     requires aims { AreAims side.now man.now.is_quiet aims.now }
     ensures { IsSetOf result (λ q. (has lands q ≡ true) ⊎ TakesToSome side.now man.now rooms.now q) }
 {
@@ -100,20 +97,18 @@ fn lands_of(
 
 // With the squares where a man comes within a room and may be captured.
 fn add_falls(side: &Side, man: &Runner, reach: &Reach, room: u8, falls: SquareSet) -> SquareSet
-    requires ground { IsGround side.now.ground }
     requires low { room < 200 }
-    requires reach { IsReach (facts_of side.now) side.now.ground.color man.now reach.now }
+    requires reach { IsReach (facts_of side.now) side.now.terrain.color man.now reach.now }
     ensures { IsSetOf result (λ q. (has falls q ≡ true) ⊎ StandsBy side.now man.now room q) }
 {
-    let stands = stands_within(&side.ground, man, reach, room);
-    falls | in_both(&stands, &[side.ground.theirs(); 6])
+    let stands = stands_within(&side.terrain, man, reach, room);
+    falls | in_both(&stands, &[side.terrain.theirs(); 6])
 }
 
 // With the squares where a man may be captured within a room.
 fn falls_of(side: &Side, man: &Walker, reach: &Reach, room: u8, falls: SquareSet) -> SquareSet
-    requires ground { IsGround side.now.ground }
     requires low { room < 255 → room < 200 }
-    requires reach { IsReach (facts_of side.now) side.now.ground.color man.now.runner reach.now }
+    requires reach { IsReach (facts_of side.now) side.now.terrain.color man.now.runner reach.now }
     ensures { IsSetOf result (λ q. (has falls q ≡ true) ⊎ FallsBy side.now man.now room q) }
 {
     if room == 255 {
@@ -126,9 +121,8 @@ fn falls_of(side: &Side, man: &Walker, reach: &Reach, room: u8, falls: SquareSet
     }
 }
 
-// Whether a man on some square of a set is within so many counts of an end.
+// Whether a man on some square of a set is within `n` counts of an end.
 fn comes_by(side: &Side, man: &Runner, aims: &Aims, e: usize, n: u8, set: SquareSet) -> bool
-    requires side { (d : Placement) × IsSide d side.now }
     requires end { IsEnd side.now e }
     requires low { n < 200 }
     requires aims { AreAims side.now man.now.is_quiet aims.now }
@@ -140,7 +134,6 @@ fn comes_by(side: &Side, man: &Runner, aims: &Aims, e: usize, n: u8, set: Square
 
 // Whether in quiet moves a man's step from among these that may be a capture leads on to an end within a room.
 fn takes_back(side: &Side, man: &Runner, aims: &Aims, e: usize, room: u8, steps: SquareSet) -> bool
-    requires side { (d : Placement) × IsSide d side.now }
     requires end { IsEnd side.now e }
     requires low { room < 200 }
     requires aims { AreAims side.now man.now.is_quiet aims.now }
@@ -149,19 +142,18 @@ fn takes_back(side: &Side, man: &Runner, aims: &Aims, e: usize, room: u8, steps:
     if !man.is_quiet {
         return false;
     }
-    comes_by(side, man, aims, e, room, steps & side.ground.lands())
+    comes_by(side, man, aims, e, room, steps & side.terrain.lands())
 }
 
 // Whether a man, no pawn, may take a step and go on to an end within a room.
 fn comes_back(side: &Side, man: &Runner, aims: &Aims, e: usize, room: u8) -> bool
-    requires side { (d : Placement) × IsSide d side.now }
     requires piece { man.now.kind ≢ Pawn }
     requires end { IsEnd side.now e }
     requires low { room < 200 }
     requires aims { AreAims side.now man.now.is_quiet aims.now }
     ensures { IsTrue result ↔ ComesBack side.now man.now e room }
 {
-    let steps = side.ground.steps(man.kind, man.square);
+    let steps = side.terrain.steps(man.kind, man.square);
     if takes_back(side, man, aims, e, room, steps) {
         return true;
     }
@@ -173,7 +165,6 @@ fn comes_back(side: &Side, man: &Runner, aims: &Aims, e: usize, room: u8) -> boo
 
 // Whether a man changes on his way to an end within a room: not where he stays.
 fn changes(side: &Side, man: &Walker, aims: &Aims, e: usize, room: u8) -> bool
-    requires side { (d : Placement) × IsSide d side.now }
     requires end { IsEnd side.now e }
     requires low { room < 200 }
     requires aims { AreAims side.now man.now.runner.is_quiet aims.now }
@@ -192,7 +183,6 @@ fn changes(side: &Side, man: &Walker, aims: &Aims, e: usize, room: u8) -> bool
 
 // Whether there is a room, and a man changes on his way to an end within it.
 fn is_end(side: &Side, man: &Walker, aims: &Aims, e: usize, room: u8) -> bool
-    requires side { (d : Placement) × IsSide d side.now }
     requires end { room < 255 → (room < 200) × IsEnd side.now e }
     requires aims { AreAims side.now man.now.runner.is_quiet aims.now }
     ensures { IsTrue result ↔ ((room < 255) × ChangesBy side.now man.now e room) }
@@ -210,7 +200,6 @@ fn with_end(ends: u32, e: usize, is_end: bool) -> u32
 
 // The ends by which a man changes within his rooms.
 fn ends_of(side: &Side, man: &Walker, aims: &Aims, rooms: &[u8; 17]) -> u32
-    requires side { (d : Placement) × IsSide d side.now }
     requires ends { AreEnds side.now rooms.now }
     requires aims { AreAims side.now man.now.runner.is_quiet aims.now }
     ensures { (e : ℕ) → e < 17 → (has result e ≡ true) ↔
@@ -253,15 +242,15 @@ fn widest(rooms: &[u8; 17]) -> u8
 // yet. Where not, his paths tell nothing new; most men change by no end, so that comes first.
 fn may_find(side: &Side, ends: u32, room: u8, lands: SquareSet, falls: SquareSet) -> bool
     ensures lands { result ≡ false →
-        (ends ≡ 0) ⊎ IsFull (landing side.now.ground.facts side.now.ground.color) lands }
+        (ends ≡ 0) ⊎ IsFull (landing side.now.terrain.facts side.now.terrain.color) lands }
     ensures falls { result ≡ false → room < 255 →
-        (ends ≡ 0) ⊎ IsFull (landing side.now.ground.facts (other side.now.ground.color)) falls }
+        (ends ≡ 0) ⊎ IsFull (landing side.now.terrain.facts (other side.now.terrain.color)) falls }
 {
     if ends == 0 {
         return false;
     }
-    let new_lands = side.ground.lands() - lands;
-    let new_falls = side.ground.theirs() - falls;
+    let new_lands = side.terrain.lands() - lands;
+    let new_falls = side.terrain.theirs() - falls;
     !new_lands.is_empty() || (room < 255 && !new_falls.is_empty())
 }
 
@@ -287,31 +276,26 @@ impl Found {
 
 // What the plans of a way have by a measure, and what was found before.
 pub(crate) fn deeds_of(
-    side: &Side,
-    is_quiet: bool,
     measured: &Measured<'_>,
     way: Option<Wing>,
     rooms: &Rooms,
     found: Found,
 ) -> Deeds
-    requires side { (d : Placement) × IsSide d side.now }
-    requires measured { IsMeasured side.now is_quiet measured.now }
-    requires rooms { (d : Placement) → IsSide d side.now →
-        AreRooms d side.now is_quiet way measured.now.most rooms.now }
-    ensures { (d : Placement) → IsSide d side.now →
-        AreDeeds d side.now is_quiet way measured.now.most found.lands found.falls result }
+    requires { HasRooms measured.now.side.now measured.now.is_quiet way measured.now.most rooms.now }
+    ensures { HasDeeds measured.now.side.now measured.now.is_quiet way measured.now.most
+        found.lands found.falls result }
 {
+    let (side, aims) = (measured.side, measured.paths());
     let mut lands = found.lands;
     let mut falls = found.falls;
     let mut ends = [0u32; 16];
     let mut reach = Reach::none();
-    let aims = measured.aims;
     for i in 0..side.men.count {
-        let man = man_of(side, is_quiet, way, i);
+        let man = man_of(side, measured.is_quiet, way, i);
         let own = ends_of(side, &man, aims, &rooms[i]);
         ends[i] = own;
         if may_find(side, own, rooms[i][16], lands, falls) {
-            reach_of(&side.ground, &man.runner, widest(&rooms[i]), &mut reach);
+            reach_of(&side.terrain, &man.runner, widest(&rooms[i]), &mut reach);
             lands = lands_of(side, &man.runner, &reach, aims, &rooms[i], lands);
             falls = falls_of(side, &man, &reach, rooms[i][16], falls);
         }

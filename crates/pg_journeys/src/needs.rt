@@ -9,21 +9,20 @@ ghost use Rattle.pg_assignments.specs.Search.{lesser_of};
 ghost use Rattle.pg_journeys.specs.Known.{known};
 ghost use Rattle.pg_journeys.specs.Needs.{AsksForPlans, IsFirstDead, IsLeastNeed, IsReached};
 ghost use Rattle.pg_journeys.specs.Plans.{Moves, QuietMoves};
-ghost use Rattle.pg_journeys.specs.Rounds.{HasFew, HasDeadColor};
+ghost use Rattle.pg_journeys.specs.Rounds.{HasDeadColor};
 ghost use Rattle.pg_journeys.specs.inner.Needing.{AreFirstBy, IsReachedIn, IsReachedOf, IsUnreached, PayInSome};
 ghost use Rattle.pg_journeys.specs.inner.Needing.{PayInWay, counted_with};
-ghost use Rattle.pg_journeys.specs.inner.Showing.{IsMeasured};
 ghost use Rattle.pg_journeys.specs.inner.Sides.{AreAims, IsSide};
-ghost use Rattle.pg_journeys.specs.inner.Walking.{HasFewer};
 
+use crate::course::Course;
 use crate::facts::Facts;
 use crate::ground::steps_table;
-use crate::plans::{
-    Aims, Side, aim_within, charge, costs_in, counted, fill_aims, first_costs, is_way,
-};
+use crate::measured::Measured;
+use crate::plans::{Aims, aim_within, charge, costs_in, counted, fill_aims, is_way};
 use crate::rings::Rings;
 use crate::rounds::{first_facts, has_few, has_fewer, has_walls, next_facts};
-use crate::shown::{Measured, is_dead, side_of};
+use crate::shown::{by_measure, is_dead, side_of};
+use crate::side::Side;
 use pg_assignments::least_total;
 use pg_board::{Color, Square, SquareSet};
 use pg_captures::all_men;
@@ -86,21 +85,16 @@ fn total_with(total: Option<u16>, charge: u8) -> Option<u8>
 }
 
 // What the plans of a way count at least.
-fn least_in_way(
-    side: &Side,
-    is_quiet: bool,
-    measured: &Measured<'_>,
-    way: Option<Wing>,
-) -> Option<u8>
-    requires side { (d : Placement) × IsSide d side.now }
-    requires measured { IsMeasured side.now is_quiet measured.now }
-    requires most { measured.now.most ≡ 199 }
-    ensures { (d : Placement) → IsSide d side.now → IsLeast (PayInWay d side.now is_quiet way) result }
+fn least_in_way(measured: &Measured<'_>, way: Option<Wing>) -> Option<u8>
+    requires { measured.now.most ≡ 199 }
+    ensures { (d : Placement) → IsSide d measured.now.side.now →
+        IsLeast (PayInWay d measured.now.side.now measured.now.is_quiet way) result }
 {
-    if !is_way(&side.position, &side.ground.facts, side.ground.color, way) {
+    let side = measured.side;
+    if !is_way(&side.position, &side.terrain.facts, side.terrain.color, way) {
         return None;
     }
-    let costs = costs_in(side, is_quiet, measured, way);
+    let costs = costs_in(measured, way);
     total_with(least_total(&costs), charge(way))
 }
 
@@ -108,25 +102,14 @@ fn least_in_way(
 // begins.
 #[inline(never)]
 fn least_in_all(side: &Side, is_quiet: bool) -> Option<u8>
-    requires side { (d : Placement) × IsSide d side.now }
     ensures { (d : Placement) → IsSide d side.now → IsLeast (PayInSome d side.now is_quiet) result }
 {
     let mut aims = [Rings::none(); 17];
     fill_aims(side, is_quiet, LeastCounts::MOST, &mut aims);
-    let measured = Measured {
-        aims: &aims,
-        most: LeastCounts::MOST,
-        costs: first_costs(side, is_quiet, &aims, LeastCounts::MOST),
-    };
-    let none = least_in_way(side, is_quiet, &measured, None);
-    let short = lesser(
-        none,
-        least_in_way(side, is_quiet, &measured, Some(Wing::KingSide)),
-    );
-    lesser(
-        short,
-        least_in_way(side, is_quiet, &measured, Some(Wing::QueenSide)),
-    )
+    let measured = by_measure(side, is_quiet, LeastCounts::MOST, &aims);
+    let none = least_in_way(&measured, None);
+    let short = lesser(none, least_in_way(&measured, Some(Wing::KingSide)));
+    lesser(short, least_in_way(&measured, Some(Wing::QueenSide)))
 }
 
 /// What a colour needs at least by each of the two measures, under facts. None where it has fewer men in the position
@@ -163,17 +146,16 @@ pub fn least_counts(
 
 // Whether in an open way some man comes to be the man e of the diagram.
 fn is_reached_in(side: &Side, aims: &Aims, way: Option<Wing>, e: usize) -> bool
-    requires side { (d : Placement) × IsSide d side.now }
     requires goal { e < side.now.goals.count }
     requires aims { AreAims side.now false aims.now }
     ensures { IsTrue result ↔ IsReachedIn side.now way e }
 {
-    if !is_way(&side.position, &side.ground.facts, side.ground.color, way) {
+    if !is_way(&side.position, &side.terrain.facts, side.terrain.color, way) {
         return false;
     }
     let within = aim_within(side, false, aims, e, LeastCounts::MOST);
     for i in 0..side.men.count {
-        let square = counted(side.ground.color, way, side.men.squares[i]);
+        let square = counted(side.terrain.color, way, side.men.squares[i]);
         if within[usize::from(side.men.kinds[i].number())].contains(square) {
             return true;
         }
@@ -183,7 +165,6 @@ fn is_reached_in(side: &Side, aims: &Aims, way: Option<Wing>, e: usize) -> bool
 
 // Whether in some way some man comes to be the man e of the diagram.
 fn is_reached(side: &Side, aims: &Aims, e: usize) -> bool
-    requires side { (d : Placement) × IsSide d side.now }
     requires goal { e < side.now.goals.count }
     requires aims { AreAims side.now false aims.now }
     ensures { IsTrue result ↔ IsReachedOf side.now e }
@@ -199,7 +180,6 @@ fn is_reached(side: &Side, aims: &Aims, e: usize) -> bool
 
 // The square of a man of the diagram to whom nobody comes in any way.
 fn unreached_of(side: &Side, aims: &Aims) -> Option<Square>
-    requires side { (d : Placement) × IsSide d side.now }
     requires aims { AreAims side.now false aims.now }
     ensures { IsUnreached side.now result }
 {
@@ -242,18 +222,16 @@ pub fn unreached(
 }
 
 // The first colour that has no way alive by facts, White first.
-fn first_dead(diagram: &Diagram, position: &Position, left: u8, facts: &Facts) -> Option<DeadColor>
-    requires few { HasFew position.now }
-    requires enough { ¬ HasFewer diagram.now position.now }
-    ensures { AreFirstBy facts.now diagram.now position.now left result }
+fn first_dead(course: &Course<'_>, facts: &Facts) -> Option<DeadColor>
+    ensures { AreFirstBy facts.now course.now.diagram.now course.now.position.now course.now.left result }
 {
-    if is_dead(diagram, position, left, facts, Color::White) {
+    if is_dead(course, facts, Color::White) {
         return Some(DeadColor {
             color: Color::White,
             facts: *facts,
         });
     }
-    if is_dead(diagram, position, left, facts, Color::Black) {
+    if is_dead(course, facts, Color::Black) {
         return Some(DeadColor {
             color: Color::Black,
             facts: *facts,
@@ -263,16 +241,15 @@ fn first_dead(diagram: &Diagram, position: &Position, left: u8, facts: &Facts) -
 }
 
 // The first colour that has no way alive in one of the four rounds.
-fn dead_in_rounds(diagram: &Diagram, position: &Position, left: u8) -> Option<DeadColor>
-    requires few { HasFew position.now }
-    requires enough { ¬ HasFewer diagram.now position.now }
-    ensures { MatchOption result (¬ HasDeadColor diagram.now position.now left)
-        (λ x. IsFirstDead diagram.now position.now left x.color (known x.facts)) }
+fn dead_in_rounds(course: &Course<'_>) -> Option<DeadColor>
+    ensures { MatchOption result
+        (¬ HasDeadColor course.now.diagram.now course.now.position.now course.now.left) (λ x.
+        IsFirstDead course.now.diagram.now course.now.position.now course.now.left x.color (known x.facts)) }
 {
-    let mut facts = first_facts(diagram, position);
+    let mut facts = first_facts(course.diagram, course.position);
     for _ in 0..3u8 {
-        match next_facts(diagram, position, left, &facts) {
-            None => return first_dead(diagram, position, left, &facts),
+        match next_facts(course, &facts) {
+            None => return first_dead(course, &facts),
             Some(next) => {
                 if next == facts {
                     return None;
@@ -281,7 +258,7 @@ fn dead_in_rounds(diagram: &Diagram, position: &Position, left: u8) -> Option<De
             }
         }
     }
-    first_dead(diagram, position, left, &facts)
+    first_dead(course, &facts)
 }
 
 /// The first colour that has no way alive in one of the four rounds, White first in each, with the facts of that round:
@@ -303,5 +280,10 @@ pub fn dead_color(diagram: &Diagram, position: &Position, left: u8) -> Option<De
     if !has_few(position) {
         return None;
     }
-    dead_in_rounds(diagram, position, left)
+    let course = Course {
+        diagram,
+        position,
+        left,
+    };
+    dead_in_rounds(&course)
 }

@@ -15,32 +15,24 @@ ghost use Rattle.pg_journeys.specs.inner.Levels.{BackWithin};
 ghost use Rattle.pg_journeys.specs.inner.Rings.{AreRings, AreWithin};
 ghost use Rattle.pg_journeys.specs.inner.Costing.{IsOnSpan, InRing, IsCountTo, IsFall, IsCostRow, AreCostRows};
 ghost use Rattle.pg_journeys.specs.inner.Costing.{AreCostsOf, HasTotalTo, walker_of, MayBeIn};
-ghost use Rattle.pg_journeys.specs.declared.plans.Side.{Side as SideOf};
-ghost use Rattle.pg_journeys.specs.inner.Showing.{IsMeasured};
-ghost use Rattle.pg_journeys.specs.inner.Sides.{facts_of, AreMen, IsSide, IsLike, IsEnd, EndWithin, AreAims};
-ghost use Rattle.pg_journeys.specs.inner.Sides.{JourneysOf, IsPaidBy};
+ghost use Rattle.pg_journeys.specs.declared.side.Side.{Side as SideOf};
+ghost use Rattle.pg_journeys.specs.inner.Deeds.{IsPaidFor};
+ghost use Rattle.pg_journeys.specs.inner.SideParts.{HaveSquares};
+ghost use Rattle.pg_journeys.specs.inner.Sides.{IsSide, IsLike, IsEnd, EndWithin, AreAims};
 
 use crate::facts::Facts;
 use crate::fronts::only;
 use crate::ground::Ground;
+use crate::measured::Measured;
 use crate::men::Men;
 use crate::rings::{Rings, Runner, met_within, rings_to};
 use crate::scene::Scene;
-use crate::shown::Measured;
+use crate::side::Side;
 use pg_assignments::{Costs, least_total};
 use pg_board::{Color, Kind, Square, SquareSet};
 use pg_captures::{plies_left, victims_of};
 use pg_fen::Diagram;
 use pg_position::{Position, Wing, ahead, king_crossed, king_home, king_target, rook_home};
-
-// The men of a colour in a position and in a diagram, and the ground of their steps under facts.
-#[derive(Drop)]
-pub(crate) struct Side {
-    pub(crate) position: Scene,
-    pub(crate) ground: Ground,
-    pub(crate) men: Men,
-    pub(crate) goals: Men,
-}
 
 // For each man of the diagram, and last for where a man may be captured, the rings of the paths to it.
 pub(crate) type Aims = [Rings; 17];
@@ -54,7 +46,7 @@ pub(crate) struct Walker {
 
 // The men whom the paths to an end lead to be, for each side of this ground and these men of the diagram.
 fn end_goals(ground: &Ground, goals: &Men, e: usize) -> [SquareSet; 6]
-    requires { (b : Placement) × AreMen b ground.now.color goals.now }
+    requires { HaveSquares goals.now }
     ensures { (x : SideOf) → IsLike x ground.now goals.now → IsEnd x e →
         (quiet : Bool) (n : ℕ) (k : KindOfMan) (s : ℕ) →
         BackWithin (known ground.now.facts) ground.now.color quiet result n k s ↔ EndWithin x quiet e n k s }
@@ -69,7 +61,7 @@ fn end_goals(ground: &Ground, goals: &Men, e: usize) -> [SquareSet; 6]
 // Writes the rings of the paths to an end, as far as `most`.
 fn aim(ground: &Ground, goals: &Men, is_quiet: bool, most: u8, e: usize, rings: &mut Rings)
     requires sound { IsGround ground.now }
-    requires goals { (b : Placement) × AreMen b ground.now.color goals.now }
+    requires goals { HaveSquares goals.now }
     requires low { most < 200 }
     ensures { (x : SideOf) → IsLike x ground.now goals.now → IsEnd x e → AreRings (EndWithin x is_quiet e) rings.new }
 {
@@ -86,7 +78,7 @@ pub(crate) fn fill_ends(
     aims: &mut Aims,
 )
     requires sound { IsGround ground.now }
-    requires goals { (b : Placement) × AreMen b ground.now.color goals.now }
+    requires goals { HaveSquares goals.now }
     requires low { most < 200 }
     ensures { (x : SideOf) → IsLike x ground.now goals.now → (x.goals.count < x.men.count → with_fall ≡ true) →
         AreAims x is_quiet aims.new }
@@ -101,27 +93,25 @@ pub(crate) fn fill_ends(
 
 // Writes the rings of the paths to each end of a side, as far as `most`.
 pub(crate) fn fill_aims(side: &Side, is_quiet: bool, most: u8, aims: &mut Aims)
-    requires side { (d : Placement) × IsSide d side.now }
     requires low { most < 200 }
     ensures { AreAims side.now is_quiet aims.new }
 {
     let with_fall = side.goals.count < side.men.count;
-    fill_ends(&side.ground, &side.goals, with_fall, is_quiet, most, aims);
+    fill_ends(&side.terrain, &side.goals, with_fall, is_quiet, most, aims);
 }
 
-// The men whom a path of at most so many counts leads to an end, searched anew.
+// The men whom a path of at most `n` counts leads to an end, searched anew.
 #[inline(never)]
 fn aim_anew(side: &Side, is_quiet: bool, e: usize, n: u8) -> [SquareSet; 6]
-    requires side { (d : Placement) × IsSide d side.now }
     requires end { IsEnd side.now e }
     requires low { n < 200 }
     ensures { AreWithin (EndWithin side.now is_quiet e) n result }
 {
-    let goals = end_goals(&side.ground, &side.goals, e);
-    met_within(&side.ground, is_quiet, &goals, n)
+    let goals = end_goals(&side.terrain, &side.goals, e);
+    met_within(&side.terrain, is_quiet, &goals, n)
 }
 
-// The men whom a path of at most so many counts leads to an end: of the ring that shows them, else searched.
+// The men whom a path of at most `n` counts leads to an end: of the ring that shows them, else searched.
 #[inline(always)]
 pub(crate) fn aim_within(
     side: &Side,
@@ -130,7 +120,6 @@ pub(crate) fn aim_within(
     e: usize,
     n: u8,
 ) -> [SquareSet; 6]
-    requires side { (d : Placement) × IsSide d side.now }
     requires end { IsEnd side.now e }
     requires low { n < 200 }
     requires aims { AreAims side.now is_quiet aims.now }
@@ -142,9 +131,8 @@ pub(crate) fn aim_within(
     }
 }
 
-// Whether a path of at most so many counts leads a man to an end.
+// Whether a path of at most `n` counts leads a man to an end.
 fn comes_within(side: &Side, aims: &Aims, e: usize, man: &Runner, n: u8) -> bool
-    requires side { (d : Placement) × IsSide d side.now }
     requires end { IsEnd side.now e }
     requires low { n < 200 }
     requires aims { AreAims side.now man.now.is_quiet aims.now }
@@ -157,7 +145,6 @@ fn comes_within(side: &Side, aims: &Aims, e: usize, man: &Runner, n: u8) -> bool
 // What a path of a man to an end counts at least, by asking for one count after the other.
 #[inline(never)]
 fn count_by_asking(side: &Side, aims: &Aims, most: u8, e: usize, man: &Runner) -> u8
-    requires side { (d : Placement) × IsSide d side.now }
     requires end { IsEnd side.now e }
     requires low { most < 200 }
     requires aims { AreAims side.now man.now.is_quiet aims.now }
@@ -208,7 +195,6 @@ fn first_ring(rings: &Rings, man: &Runner) -> usize
 
 // What a path of a man to an end counts at least, if that is at most `most`; 255 for none.
 fn count_to(side: &Side, aims: &Aims, most: u8, e: usize, man: &Runner) -> u8
-    requires side { (d : Placement) × IsSide d side.now }
     requires end { IsEnd side.now e }
     requires low { most < 200 }
     requires aims { AreAims side.now man.now.is_quiet aims.now }
@@ -260,17 +246,17 @@ pub fn charge(way: Option<Wing>) -> u8
 
 // The square that the man on a square has just passed, where he may be captured by a move to it.
 pub(crate) fn passed_square(side: &Side, square: Square) -> Option<Square>
-    ensures some { IfSome result (λ u. HasPassed side.now.position side.now.ground.color square u
-        × (u < 64) × (has (landing side.now.ground.facts (other side.now.ground.color)) u ≡ true)) }
-    ensures none { IfNone result ((u : ℕ) → HasPassed side.now.position side.now.ground.color square u →
-        has (landing side.now.ground.facts (other side.now.ground.color)) u ≡ false) }
+    ensures some { IfSome result (λ u. HasPassed side.now.position side.now.terrain.color square u
+        × (u < 64) × (has (landing side.now.terrain.facts (other side.now.terrain.color)) u ≡ true)) }
+    ensures none { IfNone result ((u : ℕ) → HasPassed side.now.position side.now.terrain.color square u →
+        has (landing side.now.terrain.facts (other side.now.terrain.color)) u ≡ false) }
 {
     match side.position.passed() {
         None => None,
         Some(passed) => {
-            let color = side.ground.color;
+            let color = side.terrain.color;
             if side.position.side() != color
-                && side.ground.theirs().contains(passed)
+                && side.terrain.theirs().contains(passed)
                 && square == ahead(color, 1, passed)
             {
                 Some(passed)
@@ -292,7 +278,7 @@ pub(crate) fn man_of(side: &Side, is_quiet: bool, way: Option<Wing>, i: usize) -
         runner: Runner {
             is_quiet,
             kind: side.men.kinds[i],
-            square: counted(side.ground.color, way, square),
+            square: counted(side.terrain.color, way, square),
         },
     }
 }
@@ -321,7 +307,6 @@ fn is_among(kinds: u64, kind: Kind) -> bool
 // What a path of a man to be a man of the diagram counts at least, if that is at most `most`; 255 for none. Most pairs
 // are of kinds that tell it.
 fn arrival(side: &Side, aims: &Aims, most: u8, e: usize, man: &Runner, kinds: u64) -> u8
-    requires side { (d : Placement) × IsSide d side.now }
     requires goal { e < side.now.goals.count }
     requires low { most < 200 }
     requires aims { AreAims side.now man.now.is_quiet aims.now }
@@ -338,7 +323,6 @@ fn arrival(side: &Side, aims: &Aims, most: u8, e: usize, man: &Runner, kinds: u6
 // What it counts at least that a man is captured; 255 for none. A king never is, and who has just passed a square takes
 // no step.
 fn fall(side: &Side, aims: &Aims, most: u8, man: &Walker) -> u8
-    requires side { (d : Placement) × IsSide d side.now }
     requires more { side.now.goals.count < side.now.men.count }
     requires low { most < 200 }
     requires aims { AreAims side.now man.now.runner.is_quiet aims.now }
@@ -368,7 +352,6 @@ fn with_falls(side: &Side, row: [u8; 16], fall: u8) -> [u8; 16]
 
 // What each fate of a man counts at least: to become each man of the diagram, and then to be captured.
 fn row(side: &Side, aims: &Aims, most: u8, man: &Walker) -> [u8; 16]
-    requires side { (d : Placement) × IsSide d side.now }
     requires low { most < 200 }
     requires aims { AreAims side.now man.now.runner.is_quiet aims.now }
     ensures { IsCostRow side.now most man.now result side.now.men.count }
@@ -387,7 +370,6 @@ fn row(side: &Side, aims: &Aims, most: u8, man: &Walker) -> [u8; 16]
 
 // What the fates of all men count where none castles.
 pub(crate) fn first_costs(side: &Side, is_quiet: bool, aims: &Aims, most: u8) -> Costs
-    requires side { (d : Placement) × IsSide d side.now }
     requires low { most < 200 }
     requires aims { AreAims side.now is_quiet aims.now }
     ensures size { result.size ≡ side.now.men.count }
@@ -405,57 +387,44 @@ pub(crate) fn first_costs(side: &Side, is_quiet: bool, aims: &Aims, most: u8) ->
 }
 
 // What the fates of a man count in a way: as where none castles, if he does not.
-fn row_in(
-    side: &Side,
-    is_quiet: bool,
-    measured: &Measured<'_>,
-    way: Option<Wing>,
-    i: usize,
-) -> [u8; 16]
-    requires side { (d : Placement) × IsSide d side.now }
-    requires measured { IsMeasured side.now is_quiet measured.now }
-    requires man { i < side.now.men.count }
-    ensures { IsCostRow side.now measured.now.most (walker_of side.now is_quiet way i) result side.now.men.count }
+fn row_in(measured: &Measured<'_>, way: Option<Wing>, i: usize) -> [u8; 16]
+    requires { i < measured.now.side.now.men.count }
+    ensures { IsCostRow measured.now.side.now measured.now.most
+        (walker_of measured.now.side.now measured.now.is_quiet way i) result measured.now.side.now.men.count }
 {
-    let man = man_of(side, is_quiet, way, i);
+    let rows = measured.first_rows();
+    let man = man_of(measured.side, measured.is_quiet, way, i);
     if man.runner.square == man.square {
-        return measured.costs.rows[i];
+        return rows[i];
     }
-    row(side, measured.aims, measured.most, &man)
+    row(measured.side, measured.paths(), measured.most, &man)
 }
 
 // What the fates of all men count in a way, man by man.
-fn costs_by_rows(side: &Side, is_quiet: bool, measured: &Measured<'_>, way: Option<Wing>) -> Costs
-    requires side { (d : Placement) × IsSide d side.now }
-    requires measured { IsMeasured side.now is_quiet measured.now }
-    ensures size { result.size ≡ side.now.men.count }
-    ensures costs { (d : Placement) → IsSide d side.now → AreCostsOf d side.now is_quiet way measured.now.most result }
+fn costs_by_rows(measured: &Measured<'_>, way: Option<Wing>) -> Costs
+    ensures size { result.size ≡ measured.now.side.now.men.count }
+    ensures costs { (d : Placement) → IsSide d measured.now.side.now →
+        AreCostsOf d measured.now.side.now measured.now.is_quiet way measured.now.most result }
 {
     let mut rows = [[255u8; 16]; 16];
-    for i in 0..side.men.count {
-        rows[i] = row_in(side, is_quiet, measured, way, i);
+    for i in 0..measured.side.men.count {
+        rows[i] = row_in(measured, way, i);
     }
     Costs {
-        size: side.men.count,
+        size: measured.side.men.count,
         rows,
     }
 }
 
 // What the fates of all men count in a way.
-pub(crate) fn costs_in(
-    side: &Side,
-    is_quiet: bool,
-    measured: &Measured<'_>,
-    way: Option<Wing>,
-) -> Costs
-    requires side { (d : Placement) × IsSide d side.now }
-    requires measured { IsMeasured side.now is_quiet measured.now }
-    ensures size { result.size ≡ side.now.men.count }
-    ensures costs { (d : Placement) → IsSide d side.now → AreCostsOf d side.now is_quiet way measured.now.most result }
+pub(crate) fn costs_in(measured: &Measured<'_>, way: Option<Wing>) -> Costs
+    ensures size { result.size ≡ measured.now.side.now.men.count }
+    ensures costs { (d : Placement) → IsSide d measured.now.side.now →
+        AreCostsOf d measured.now.side.now measured.now.is_quiet way measured.now.most result }
 {
     match way {
         None => measured.costs,
-        Some(_) => costs_by_rows(side, is_quiet, measured, way),
+        Some(_) => costs_by_rows(measured, way),
     }
 }
 
@@ -519,24 +488,13 @@ fn pays(costs: &Costs, most: u8) -> bool
 }
 
 // Whether what is measured pays for a plan by this way.
-pub(crate) fn is_paid(
-    side: &Side,
-    is_quiet: bool,
-    measured: &Measured<'_>,
-    way: Option<Wing>,
-) -> bool
-    requires side { (d : Placement) × IsSide d side.now }
-    requires measured { IsMeasured side.now is_quiet measured.now }
-    ensures { (d : Placement) → IsSide d side.now →
-        IsTrue result ↔ ((g : JourneysOf d side.now way) × IsPaidBy d side.now is_quiet way measured.now.most g) }
+pub(crate) fn is_paid(measured: &Measured<'_>, way: Option<Wing>) -> bool
+    ensures { IsPaidFor measured.now.side.now measured.now.is_quiet way measured.now.most result }
 {
     let charge = charge(way);
     if charge > measured.most {
         false
     } else {
-        pays(
-            &costs_in(side, is_quiet, measured, way),
-            measured.most - charge,
-        )
+        pays(&costs_in(measured, way), measured.most - charge)
     }
 }

@@ -1,13 +1,12 @@
 //! How much a path of a man to a fate may count in a plan.
-ghost use Rattle.std.specs.Prelude.{◌≡◌, ℕ, Bool, ◌<◌, ◌≤◌, IfSome, IfNone};
-ghost use Rattle.pg_board.specs.Placement.{Placement};
+ghost use Rattle.std.specs.Prelude.{◌<◌, ◌≤◌, IfSome, IfNone};
 ghost use Rattle.pg_assignments.specs.Assignments.{AreLeastWith};
 ghost use Rattle.pg_journeys.specs.inner.Costing.{IsRoom, IsWider, EndsAt, IsRoomRow, AreRoomRows};
-ghost use Rattle.pg_journeys.specs.inner.Sides.{IsSide, AreRooms, JourneysOf, IsPaidBy};
-ghost use Rattle.pg_journeys.specs.inner.Showing.{IsMeasured, IsSameBy};
+ghost use Rattle.pg_journeys.specs.inner.Deeds.{HasNoPlan};
+ghost use Rattle.pg_journeys.specs.inner.Showing.{HasRooms};
 
-use crate::plans::{Side, charge, costs_in};
-use crate::shown::Measured;
+use crate::measured::Measured;
+use crate::plans::{charge, costs_in};
 use pg_assignments::{Costs, least_totals};
 use pg_position::Wing;
 
@@ -45,7 +44,7 @@ fn wider(a: u8, b: u8) -> u8
     }
 }
 
-// The end of a column, where there are so many men of the diagram.
+// The end of a column: the first `goals` are those of the men of the diagram.
 fn end_of(goals: usize, j: usize) -> usize
     requires { j < 16 }
     ensures end { EndsAt goals j result }
@@ -89,28 +88,19 @@ fn rows(costs: &Costs, goals: usize, least: &[[u16; 16]; 16], paid: u16) -> Room
 
 // The rooms of all men by a way, where what is measured pays for all paths and the way; none where it pays for no plan.
 // One assignment tells both.
-pub(crate) fn rooms_of(
-    side: &Side,
-    is_quiet: bool,
-    measured: &Measured<'_>,
-    way: Option<Wing>,
-) -> Option<Rooms>
-    requires side { (d : Placement) × IsSide d side.now }
-    requires measured { IsMeasured side.now is_quiet measured.now }
-    ensures none { IfNone result ((d : Placement) → IsSide d side.now →
-        (g : JourneysOf d side.now way) → IsPaidBy d side.now is_quiet way measured.now.most g → ⊥) }
-    ensures some { IfSome result (λ rooms. (d : Placement) (quiet : Bool) → IsSide d side.now →
-        IsSameBy side.now is_quiet quiet → AreRooms d side.now quiet way measured.now.most rooms
-        × ((g : JourneysOf d side.now way) × IsPaidBy d side.now quiet way measured.now.most g)) }
+pub(crate) fn rooms_of(measured: &Measured<'_>, way: Option<Wing>) -> Option<Rooms>
+    ensures none { IfNone result (HasNoPlan measured.now.side.now measured.now.is_quiet way measured.now.most) }
+    ensures some { IfSome result (λ rooms.
+        HasRooms measured.now.side.now measured.now.is_quiet way measured.now.most rooms) }
 {
     let charge = charge(way);
     if charge > measured.most {
         return None;
     }
     let paid = u16::from(measured.most - charge);
-    let costs = costs_in(side, is_quiet, measured, way);
+    let costs = costs_in(measured, way);
     match least_totals(&costs, paid) {
         None => None,
-        Some(totals) => Some(rows(&costs, side.goals.count, &totals.pairs, paid)),
+        Some(totals) => Some(rows(&costs, measured.side.goals.count, &totals.pairs, paid)),
     }
 }

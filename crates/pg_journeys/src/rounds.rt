@@ -1,26 +1,31 @@
 //! The four rounds.
-ghost use Rattle.std.specs.Prelude.{◌≡◌, ℕ, ◌<◌, ◌⊎◌, ◌↔◌, IsTrue, IfSome, IfNone, MatchOption, true, All};
+ghost use Rattle.std.specs.Prelude.{◌≡◌, ℕ, ◌<◌, ◌⊎◌, ◌↔◌, IsTrue, IfSome, IfNone, true, All};
 ghost use Rattle.pg_board.specs.Bits.{has};
 ghost use Rattle.pg_board.specs.SquareSets.{IsSetOf};
 ghost use Rattle.pg_board.specs.declared.man.Color.{Color as AnyColor};
 ghost use Rattle.pg_board.specs.declared.man.Color.TheVariants.{White, Black};
 ghost use Rattle.pg_captures.specs.Owed.{victims};
-ghost use Rattle.pg_journeys.specs.Facts.{Facts as GameFacts, FactsHold};
+ghost use Rattle.pg_journeys.specs.Facts.{FactsHold};
+ghost use Rattle.pg_journeys.specs.declared.facts.Facts.{Facts as FactSets};
 ghost use Rattle.pg_journeys.specs.FirstFacts.{AreFirst, HasWalls, IsWallOf};
 ghost use Rattle.pg_journeys.specs.Known.{known};
 ghost use Rattle.pg_journeys.specs.Rounds.{HasFew, AreFacts, HasDeadColor, JourneysHold};
 ghost use Rattle.pg_journeys.specs.inner.Grounds.{HasSteps};
-ghost use Rattle.pg_journeys.specs.inner.Knowing.{IsKnown};
-ghost use Rattle.pg_journeys.specs.inner.Remembering.{AreSteps, IsRemembered};
-ghost use Rattle.pg_journeys.specs.inner.Showing.{IsDead, Shows};
+ghost use Rattle.pg_journeys.specs.inner.Courses.{IsDeadOn, IsNextOn};
+ghost use Rattle.pg_journeys.specs.inner.Remembering.{IsRemembered};
+ghost use Rattle.pg_journeys.specs.inner.Showing.{Shows};
 ghost use Rattle.pg_journeys.specs.inner.Walking.{HasFewer, IsKept, MayLand, IsNext};
 
+use crate::course::Course;
 use crate::facts::{Facts, walls};
 use crate::ground::steps_table;
-use crate::known::{FirstAims, Given, Known, known_steps};
-use crate::memory::{Case, Memory, Remembered, Steps, shown_in, steps_in};
+use crate::known::{FirstAims, known_steps};
+use crate::known_paths::KnownPaths;
+use crate::memory::{Memory, Remembered, shown_in, steps_in};
 use crate::plans::budget;
+use crate::round::Round;
 use crate::shown::{Shown, is_dead};
+use crate::steps::Steps;
 use pg_board::{Board, Color, SquareSet};
 use pg_captures::{all_men, victims_of};
 use pg_fen::Diagram;
@@ -105,108 +110,63 @@ fn narrowed(
 }
 
 // Whether a colour owes more captures than it has plies: by no facts has it a way alive.
-fn owes_more(diagram: &Diagram, position: &Position, left: u8, color: Color) -> bool
-    ensures { (f : GameFacts) → IsTrue result → IsDead f diagram.now position.now left color }
+fn owes_more(course: &Course<'_>, color: Color) -> bool
+    ensures { (f : FactSets) → IsTrue result → IsDeadOn course.now f color }
 {
-    match budget(diagram, position, color, left, true) {
+    match budget(course.diagram, course.position, color, course.left, true) {
         None => true,
         Some(_) => false,
     }
 }
 
 // The facts that follow; none where a colour has no way alive. One table has the steps of both colours.
-fn facts_by_plans(
-    diagram: &Diagram,
-    position: &Position,
-    left: u8,
-    facts: &Facts,
-    given: &Given<'_>,
-    shown: &mut [Remembered],
-) -> Option<Facts>
-    requires steps { HasSteps facts.now.still given.now.table.now }
-    requires known { All IsKnown given.now.known.now }
-    requires few { HasFew position.now }
-    requires enough { ¬ HasFewer diagram.now position.now }
-    requires remembered { All (IsRemembered diagram.now) shown.old }
-    ensures next { MatchOption result ((c : AnyColor) × IsDead (known facts.now) diagram.now position.now left c)
-        (λ e. IsNext (known facts.now) (known e) diagram.now position.now left) }
-    ensures remembered { All (IsRemembered diagram.now) shown.new }
+fn facts_by_plans(course: &Course<'_>, round: &Round<'_>, shown: &mut [Remembered]) -> Option<Facts>
+    requires { All (IsRemembered course.now.diagram.now) shown.old }
+    ensures next { IsNextOn course.now round.now.facts result }
+    ensures remembered { All (IsRemembered course.now.diagram.now) shown.new }
 {
-    let case = Case {
-        position: *position,
-        left,
-        facts: *facts,
-        color: Color::White,
-    };
-    match shown_in(shown, diagram, &case, given) {
+    let (diagram, position) = (course.diagram, course.position);
+    match shown_in(shown, course, round, Color::White) {
         None => None,
-        Some(white) => {
-            let case = Case {
-                color: Color::Black,
-                ..case
-            };
-            match shown_in(shown, diagram, &case, given) {
-                None => None,
-                Some(black) => Some(narrowed(diagram, position, facts, &white, &black)),
-            }
-        }
+        Some(white) => match shown_in(shown, course, round, Color::Black) {
+            None => None,
+            Some(black) => Some(narrowed(diagram, position, &round.facts, &white, &black)),
+        },
     }
 }
 
 // The facts that follow; none where a colour has no way alive. What both may spend is asked before any plan is looked
 // for.
-fn next_by(
-    diagram: &Diagram,
-    position: &Position,
-    left: u8,
-    facts: &Facts,
-    given: &Given<'_>,
-    shown: &mut [Remembered],
-) -> Option<Facts>
-    requires steps { HasSteps facts.now.still given.now.table.now }
-    requires known { All IsKnown given.now.known.now }
-    requires few { HasFew position.now }
-    requires enough { ¬ HasFewer diagram.now position.now }
-    requires remembered { All (IsRemembered diagram.now) shown.old }
-    ensures next { MatchOption result ((c : AnyColor) × IsDead (known facts.now) diagram.now position.now left c)
-        (λ e. IsNext (known facts.now) (known e) diagram.now position.now left) }
-    ensures remembered { All (IsRemembered diagram.now) shown.new }
+fn next_by(course: &Course<'_>, round: &Round<'_>, shown: &mut [Remembered]) -> Option<Facts>
+    requires { All (IsRemembered course.now.diagram.now) shown.old }
+    ensures next { IsNextOn course.now round.now.facts result }
+    ensures remembered { All (IsRemembered course.now.diagram.now) shown.new }
 {
-    if owes_more(diagram, position, left, Color::White) {
+    if owes_more(course, Color::White) {
         return None;
     }
-    if owes_more(diagram, position, left, Color::Black) {
+    if owes_more(course, Color::Black) {
         return None;
     }
-    facts_by_plans(diagram, position, left, facts, given, shown)
+    facts_by_plans(course, round, shown)
 }
 
 // The same, by a table of steps that is made here and nothing that is remembered.
-pub(crate) fn next_facts(
-    diagram: &Diagram,
-    position: &Position,
-    left: u8,
-    facts: &Facts,
-) -> Option<Facts>
-    requires few { HasFew position.now }
-    requires enough { ¬ HasFewer diagram.now position.now }
-    ensures { MatchOption result ((c : AnyColor) × IsDead (known facts.now) diagram.now position.now left c)
-        (λ e. IsNext (known facts.now) (known e) diagram.now position.now left) }
+pub(crate) fn next_facts(course: &Course<'_>, facts: &Facts) -> Option<Facts>
+    ensures { IsNextOn course.now facts.now result }
 {
     let table = steps_table(facts.still);
-    let given = Given {
+    let round = Round {
+        facts: *facts,
         table: &table,
         known: &[],
     };
-    next_by(diagram, position, left, facts, &given, &mut [])
+    next_by(course, &round, &mut [])
 }
 
 // The table of steps where these squares are still, as it is known beforehand, or remembered.
-fn table_by(beforehand: &[Known], steps: &mut [Steps], still: SquareSet) -> [SquareSet; 384]
-    requires known { All IsKnown beforehand.now }
-    requires remembered { All AreSteps steps.old }
-    ensures steps { HasSteps still result }
-    ensures remembered { All AreSteps steps.new }
+fn table_by(beforehand: &[KnownPaths], steps: &mut [Steps], still: SquareSet) -> [SquareSet; 384]
+    ensures { HasSteps still result }
 {
     match known_steps(beforehand, still) {
         Some(table) => *table,
@@ -215,44 +175,37 @@ fn table_by(beforehand: &[Known], steps: &mut [Steps], still: SquareSet) -> [Squ
 }
 
 // Whether by these facts a colour has no way alive.
-fn any_dead(diagram: &Diagram, position: &Position, left: u8, facts: &Facts) -> bool
-    requires few { HasFew position.now }
-    requires enough { ¬ HasFewer diagram.now position.now }
-    ensures { IsTrue result ↔ ((c : AnyColor) × IsDead (known facts.now) diagram.now position.now left c) }
+fn any_dead(course: &Course<'_>, facts: &Facts) -> bool
+    ensures { IsTrue result ↔ ((c : AnyColor) × IsDeadOn course.now facts.now c) }
 {
-    is_dead(diagram, position, left, facts, Color::White)
-        || is_dead(diagram, position, left, facts, Color::Black)
+    is_dead(course, facts, Color::White) || is_dead(course, facts, Color::Black)
 }
 
 // The facts of the last round; none where in a round a colour has no way alive. Facts that stay the same are those
 // of each later round too, and the facts of the last round are not narrowed.
 fn last_facts(
-    diagram: &Diagram,
-    position: &Position,
-    left: u8,
-    beforehand: &[Known],
+    course: &Course<'_>,
+    beforehand: &[KnownPaths],
     shown: &mut [Remembered],
     steps: &mut [Steps],
 ) -> Option<Facts>
-    requires few { HasFew position.now }
-    requires enough { ¬ HasFewer diagram.now position.now }
-    requires known { All IsKnown beforehand.now }
-    requires shown { All (IsRemembered diagram.now) shown.old }
-    requires steps { All AreSteps steps.old }
-    ensures dead { IfNone result (HasDeadColor diagram.now position.now left) }
-    ensures alive { IfSome result (λ f. ¬ HasDeadColor diagram.now position.now left) }
-    ensures facts { IfSome result (λ f. AreFacts diagram.now position.now left 3 (known f)) }
-    ensures shown { All (IsRemembered diagram.now) shown.new }
-    ensures steps { All AreSteps steps.new }
+    requires { All (IsRemembered course.now.diagram.now) shown.old }
+    ensures dead { IfNone result (HasDeadColor course.now.diagram.now course.now.position.now course.now.left) }
+    ensures alive { IfSome result (λ f.
+        ¬ HasDeadColor course.now.diagram.now course.now.position.now course.now.left) }
+    ensures facts { IfSome result (λ f.
+        AreFacts course.now.diagram.now course.now.position.now course.now.left 3 (known f)) }
+    ensures remembered { All (IsRemembered course.now.diagram.now) shown.new }
 {
-    let mut facts = first_facts(diagram, position);
+    let mut facts = first_facts(course.diagram, course.position);
     for _ in 0..3u8 {
         let table = table_by(beforehand, steps, facts.still);
-        let given = Given {
+        let round = Round {
+            facts,
             table: &table,
             known: beforehand,
         };
-        match next_by(diagram, position, left, &facts, &given, shown) {
+        match next_by(course, &round, shown) {
             None => return None,
             Some(next) => {
                 if next == facts {
@@ -262,7 +215,7 @@ fn last_facts(
             }
         }
     }
-    if any_dead(diagram, position, left, &facts) {
+    if any_dead(course, &facts) {
         return None;
     }
     Some(facts)
@@ -300,20 +253,17 @@ pub(crate) fn facts_by(
     diagram: &Diagram,
     position: &Position,
     left: u8,
-    beforehand: &[Known],
+    beforehand: &[KnownPaths],
     shown: &mut [Remembered],
     steps: &mut [Steps],
 ) -> Option<Facts>
-    requires known { All IsKnown beforehand.now }
-    requires shown { All (IsRemembered diagram.now) shown.old }
-    requires steps { All AreSteps steps.old }
+    requires { All (IsRemembered diagram.now) shown.old }
     ensures holds { IfSome result (λ f. FactsHold (known f) diagram.now position.now left) }
     ensures last { IfSome result (λ f. HasFew position.now → AreFacts diagram.now position.now left 3 (known f)) }
     ensures first { IfSome result (λ f. ¬ HasFew position.now → AreFirst (known f) diagram.now position.now) }
     ensures some { IfSome result (λ f. ¬ JourneysHold diagram.now position.now left) }
     ensures none { IfNone result (JourneysHold diagram.now position.now left) }
-    ensures shown { All (IsRemembered diagram.now) shown.new }
-    ensures steps { All AreSteps steps.new }
+    ensures remembered { All (IsRemembered diagram.now) shown.new }
 {
     // A fact for the proof: what is handed in is a position.
     position.side();
@@ -326,7 +276,12 @@ pub(crate) fn facts_by(
     if !has_few(position) {
         return Some(first_facts(diagram, position));
     }
-    last_facts(diagram, position, left, beforehand, shown, steps)
+    let course = Course {
+        diagram,
+        position,
+        left,
+    };
+    last_facts(&course, beforehand, shown, steps)
 }
 
 /// Facts that hold for the games of `left` plies from the position to the diagram: the squares whose men stay where

@@ -19,7 +19,7 @@ use Rattle.pg_journeys.specs.Known.{landing}
 use Rattle.pg_journeys.specs.inner.Counts.{of_kind}
 use Rattle.pg_journeys.specs.inner.Counting.{counts}
 use Rattle.pg_journeys.specs.inner.Sides.{square_at, kind_at, facts_of, EndWithin}
-use Rattle.pg_journeys.specs.declared.plans.Side.{Side}
+use Rattle.pg_journeys.specs.declared.side.Side.{Side}
 use Rattle.pg_journeys.specs.declared.plans.Walker.{Walker}
 use Rattle.pg_journeys.specs.declared.rings.Rings.{Rings}
 use Rattle.pg_journeys.specs.declared.rings.Runner.{Runner}
@@ -47,7 +47,7 @@ IsCountTo x most e m n = IsCount (λ a. EndWithin x m.is_quiet e a m.kind m.squa
 
 -- the man i of a side, and as whom a way counts him
 abbrev pub runner_of : Side → Bool → Option Wing → ℕ → Runner
-runner_of x quiet way i = record { is_quiet = quiet; kind = kind_at x.men i; square = counted x.ground.color way (square_at x.men i) }
+runner_of x quiet way i = record { is_quiet = quiet; kind = kind_at x.men i; square = counted x.terrain.color way (square_at x.men i) }
 
 abbrev pub walker_of : Side → Bool → Option Wing → ℕ → Walker
 walker_of x quiet way i = record { square = square_at x.men i; runner = runner_of x quiet way i }
@@ -55,14 +55,14 @@ walker_of x quiet way i = record { square = square_at x.men i; runner = runner_o
 -- ---- costs
 -- captures of the other colour may land there
 abbrev pub AreTheirs : Side → ℕ → Type 0
-AreTheirs x u = has (landing x.ground.facts (other x.ground.color)) u ≡ true
+AreTheirs x u = has (landing x.terrain.facts (other x.terrain.color)) u ≡ true
 
 -- n is what it costs that the man is captured: a king is never, and who has just passed a square takes no step
 pub record IsFall (x : Side) (most : ℕ) (m : Walker) (n : ℕ) : Type 0 where
   pub king : m.runner.kind ≡ King → n ≡ 255
   pub other : m.runner.kind ≢ King →
-      (((u : ℕ) × HasPassed x.position x.ground.color m.square u × (u < 64) × AreTheirs x u) × (n ≡ 0))
-      ⊎ (((u : ℕ) → HasPassed x.position x.ground.color m.square u → AreTheirs x u → ⊥) × IsCountTo x most 16 m.runner n)
+      (((u : ℕ) × HasPassed x.position x.terrain.color m.square u × (u < 64) × AreTheirs x u) × (n ≡ 0))
+      ⊎ (((u : ℕ) → HasPassed x.position x.terrain.color m.square u → AreTheirs x u → ⊥) × IsCountTo x most 16 m.runner n)
 
 -- n is what column j costs the man: the first are the men of the diagram, the others are to be captured
 pub record IsColumnCost (x : Side) (most : ℕ) (m : Walker) (j n : ℕ) : Type 0 where
@@ -80,7 +80,7 @@ AreCostRows x quiet way most rows n = (i : ℕ) → i < n → IsCostRow x most (
 -- the costs are those of the fates of the men in a way
 abbrev pub AreCostsOf : Placement → Side → Bool → Option Wing → ℕ → Costs → Type 0
 AreCostsOf d x quiet way most k =
-    AreCosts (facts_of x) d x.position x.ground.color way (counts (facts_of x) x.ground.color quiet) (square_at x.men) (square_at x.goals)
+    AreCosts (facts_of x) d x.position x.terrain.color way (counts (facts_of x) x.terrain.color quiet) (square_at x.men) (square_at x.goals)
     k.size x.goals.count (cost k) most
 
 -- some assignment of all rows to as many columns is within a budget
@@ -88,7 +88,7 @@ abbrev pub HasTotalTo : Costs → ℕ → Type 0
 HasTotalTo k most = (to : ℕ → ℕ) × IsAssignment (cost k) (Below k.size) k.size to × (sum_of (cost k) to k.size ≤ most)
 
 -- ---- rooms
--- n is what the man i may count at column j, where so many counts pay for all: what the others leave
+-- n is what the man i may count at column j, where `paid` counts pay for all: what the others leave
 abbrev pub IsRoom : Costs → List (List ℕ) → ℕ → ℕ → ℕ → ℕ → Type 0
 IsRoom k least paid i j n =
     ((paid < at2 least i j) × (n ≡ 255)) ⊎ ((at2 least i j ≤ paid) × (n + at2 least i j ≡ paid + cost k i j) × (n ≤ paid))

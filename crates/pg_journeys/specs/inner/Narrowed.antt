@@ -11,7 +11,7 @@ use Rattle.pg_journeys.specs.inner.Counts.{of_kind}
 use Rattle.pg_journeys.specs.inner.Levels.{AheadWithin}
 use Rattle.pg_journeys.specs.inner.Rings.{TakesWithin}
 use Rattle.pg_journeys.specs.inner.Sides.{facts_of, square_at, kind_at, IsEnd, EndWithin}
-use Rattle.pg_journeys.specs.declared.plans.Side.{Side}
+use Rattle.pg_journeys.specs.declared.side.Side.{Side}
 use Rattle.pg_journeys.specs.declared.plans.Walker.{Walker}
 use Rattle.pg_journeys.specs.declared.rings.Runner.{Runner}
 
@@ -26,7 +26,7 @@ AreEnds x rooms = (e : ℕ) → e < 17 → get_or rooms e 0 < 255 → (get_or ro
 -- by a step that may be a capture the man comes within i to q, and from there within the rest of the room to the end e
 abbrev pub TakesAt : Side → Runner → ℕ → ℕ → ℕ → ℕ → Type 0
 TakesAt x m e room i q =
-    (j : Kind) × TakesWithin (facts_of x) x.ground.color m.is_quiet m.kind m.square i j q × EndWithin x m.is_quiet e (room - i) j q
+    (j : Kind) × TakesWithin (facts_of x) x.terrain.color m.is_quiet m.kind m.square i j q × EndWithin x m.is_quiet e (room - i) j q
 
 -- so it is by some number within the room
 abbrev pub TakesTo : Side → Runner → ℕ → ℕ → ℕ → Type 0
@@ -43,13 +43,13 @@ TakesToSome x m rooms q = (e : ℕ) × (e < 17) × TakesBy x m rooms e q
 -- as some kind he comes within the room to q, where captures of the other colour may land
 abbrev pub StandsBy : Side → Runner → ℕ → ℕ → Type 0
 StandsBy x m room q =
-    (j : Kind) × AheadWithin (facts_of x) x.ground.color m.is_quiet m.kind m.square room j q
-    × (has (landing x.ground.facts (other x.ground.color)) q ≡ true)
+    (j : Kind) × AheadWithin (facts_of x) x.terrain.color m.is_quiet m.kind m.square room j q
+    × (has (landing x.terrain.facts (other x.terrain.color)) q ≡ true)
 
 -- the man on the square s has just passed q, where he may be captured
 abbrev pub PassedBy : Side → ℕ → ℕ → Type 0
 PassedBy x s q =
-    HasPassed x.position x.ground.color s q × (q < 64) × (has (landing x.ground.facts (other x.ground.color)) q ≡ true)
+    HasPassed x.position x.terrain.color s q × (q < 64) × (has (landing x.terrain.facts (other x.terrain.color)) q ≡ true)
 
 -- he may be captured on q: the room is one, and he comes there or has just passed it
 abbrev pub FallsBy : Side → Walker → ℕ → ℕ → Type 0
@@ -62,14 +62,14 @@ ComesBy x m e n set = (t : ℕ) × (t < 64) × (has set t ≡ true) × EndWithin
 -- in quiet moves one of these steps of his may be a capture, and leads on to the end e within the room
 abbrev pub TakesBack : Side → Runner → ℕ → ℕ → ℕ → Type 0
 TakesBack x m e room steps =
-    (m.is_quiet ≡ true) × (t : ℕ) × (t < 64) × (has steps t ≡ true) × (has (landing x.ground.facts x.ground.color) t ≡ true)
+    (m.is_quiet ≡ true) × (t : ℕ) × (t < 64) × (has steps t ≡ true) × (has (landing x.terrain.facts x.terrain.color) t ≡ true)
     × EndWithin x m.is_quiet e room m.kind t
 
 -- a man who is no pawn steps to some square and on from there to the end e within the room
 abbrev pub ComesBack : Side → Runner → ℕ → ℕ → Type 0
 ComesBack x m e room =
-    (t : ℕ) × (t < 64) × IsLeg (facts_of x) x.ground.color (leg m.kind m.square m.kind t)
-    × (n : ℕ) × EndWithin x m.is_quiet e n m.kind t × (cond (m.is_quiet && has (landing x.ground.facts x.ground.color) t) 0 1 + n ≤ room)
+    (t : ℕ) × (t < 64) × IsLeg (facts_of x) x.terrain.color (leg m.kind m.square m.kind t)
+    × (n : ℕ) × EndWithin x m.is_quiet e n m.kind t × (cond (m.is_quiet && has (landing x.terrain.facts x.terrain.color) t) 0 1 + n ≤ room)
 
 -- at the end e he does not stay: he is captured, or becomes a man on another square or of another kind, or comes back
 abbrev pub ChangesBy : Side → Walker → ℕ → ℕ → Type 0

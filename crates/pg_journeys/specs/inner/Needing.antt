@@ -13,27 +13,27 @@ use Rattle.pg_journeys.specs.inner.Showing.{IsDead}
 use Rattle.pg_journeys.specs.inner.Sides.{facts_of, square_at, kind_at, JourneysOf, IsPaidBy}
 use Rattle.pg_journeys.specs.declared.facts.Facts.{Facts as FactSets}
 use Rattle.pg_journeys.specs.declared.needs.DeadColor.{DeadColor}
-use Rattle.pg_journeys.specs.declared.plans.Side.{Side}
+use Rattle.pg_journeys.specs.declared.side.Side.{Side}
 
 -- a total of paths and what a way counts beside them, where both together are at most 199
 unfoldable pub counted_with : Option ℕ → ℕ → Option ℕ
 counted_with None charge = None
 counted_with (Some total) charge = cond (leb (total + charge) 199) (Some (total + charge)) None
 
--- so many counts, at most 199, pay for some plan of an open way
+-- n counts, at most 199, pay for some plan of an open way
 abbrev pub PayInWay : Placement → Side → Bool → Option Wing → ℕ → Type 0
 PayInWay d x quiet way n =
-    (n ≤ 199) × IsWayUnder (facts_of x) x.position x.ground.color way × (g : JourneysOf d x way) × IsPaidBy d x quiet way n g
+    (n ≤ 199) × IsWayUnder (facts_of x) x.position x.terrain.color way × (g : JourneysOf d x way) × IsPaidBy d x quiet way n g
 
--- so many pay for some plan of some way
+-- n counts pay for some plan of some way
 abbrev pub PayInSome : Placement → Side → Bool → ℕ → Type 0
 PayInSome d x quiet n = (way : Option Wing) × PayInWay d x quiet way n
 
 -- in an open way the man e of the diagram is reached by a path of some man
 abbrev pub IsReachedIn : Side → Option Wing → ℕ → Type 0
 IsReachedIn x way e =
-    IsWayUnder (facts_of x) x.position x.ground.color way × (i : ℕ) × (i < x.men.count) × (ls : List Leg)
-    × IsPath (facts_of x) x.ground.color (kind_at x.men i) (counted x.ground.color way (square_at x.men i)) ls (kind_at x.goals e) (square_at x.goals e)
+    IsWayUnder (facts_of x) x.position x.terrain.color way × (i : ℕ) × (i < x.men.count) × (ls : List Leg)
+    × IsPath (facts_of x) x.terrain.color (kind_at x.men i) (counted x.terrain.color way (square_at x.men i)) ls (kind_at x.goals e) (square_at x.goals e)
     × (length ls ≤ 199)
 
 -- in some way

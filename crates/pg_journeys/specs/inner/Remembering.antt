@@ -11,11 +11,9 @@ use Rattle.pg_captures.specs.Owed.{plies_left, victims}
 use Rattle.pg_journeys.specs.Facts.{Facts}
 use Rattle.pg_journeys.specs.Journeys.{HasPassed}
 use Rattle.pg_journeys.specs.Known.{known}
-use Rattle.pg_journeys.specs.inner.Grounds.{HasSteps}
 use Rattle.pg_journeys.specs.inner.Showing.{IsDead, Shows}
 use Rattle.pg_journeys.specs.declared.memory.Case.{Case}
 use Rattle.pg_journeys.specs.declared.memory.Remembered.{Remembered}
-use Rattle.pg_journeys.specs.declared.memory.Steps.{Steps}
 use Rattle.pg_journeys.specs.declared.shown.Shown.{Shown}
 
 -- p with k plies left and q with n are the same for c under facts: c has the same men and rights in both, the same pawn that has
@@ -41,7 +39,3 @@ IsAnswer d a o =
 -- what is told of a case is what its plans show on the way to d
 abbrev pub IsRemembered : Placement → Remembered → Type 0
 IsRemembered d r = r.is_told ≡ true → IsAnswer d r.case r.shown
-
--- the table has the steps where its squares are still
-abbrev pub AreSteps : Steps → Type 0
-AreSteps s = HasSteps s.still s.table

@@ -1,4 +1,4 @@
--- Rings: for each count the men, by kind and square, whom a path of at most so many counts reaches.
+-- Rings: for each count the men, by kind and square, whom a path of at most that count reaches.
 use Rattle.std.specs.Prelude.{◌≡◌, ℕ, ◌-◌, ◌<◌, ◌≤◌, ◌⊎◌, ◌↔◌, Bool, true, List, [], get_or}
 use Rattle.pg_board.specs.Bits.{has}
 use Rattle.pg_board.specs.declared.man.Color.{Color}

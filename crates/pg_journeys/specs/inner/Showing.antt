@@ -1,5 +1,5 @@
 -- What the plans of a colour show, way by way.
-use Rattle.std.specs.Prelude.{◌≡◌, ◌≢◌, ℕ, ◌+◌, ◌<◌, ◌⊎◌, ◌↔◌, ◌||◌, Bool, true, false, Option, None, MatchOption, List, [], ◌∷◌, get_or}
+use Rattle.std.specs.Prelude.{◌≡◌, ◌≢◌, ℕ, ◌+◌, ◌<◌, ◌⊎◌, ◌↔◌, ◌||◌, Bool, true, false, Option, MatchOption, List, [], ◌∷◌, get_or}
 use Rattle.pg_board.specs.Bits.{has}
 use Rattle.pg_board.specs.declared.man.Color.{Color}
 use Rattle.pg_board.specs.declared.man.Kind.{Kind}
@@ -16,12 +16,11 @@ use Rattle.pg_journeys.specs.Journeys.{Falls, Journeys, HasTake}
 use Rattle.pg_journeys.specs.Plans.{Measure, Moves, QuietMoves, IsPaid, IsAlive}
 use Rattle.pg_journeys.specs.Narrowing.{StaysIn, PlansToTake, PlansToFall}
 use Rattle.pg_journeys.specs.declared.men.Men.{Men}
-use Rattle.pg_journeys.specs.declared.plans.Side.{Side}
+use Rattle.pg_journeys.specs.declared.side.Side.{Side}
 use Rattle.pg_journeys.specs.declared.narrowing.Deeds.{Deeds}
 use Rattle.pg_journeys.specs.declared.shown.Shown.{Shown}
-use Rattle.pg_journeys.specs.declared.shown.Measured.{Measured}
-use Rattle.pg_journeys.specs.inner.Sides.{facts_of, square_at, AreAims, IsSide}
-use Rattle.pg_journeys.specs.inner.Costing.{AreCostRows}
+use Rattle.pg_journeys.specs.declared.measured.Measured.{Measured}
+use Rattle.pg_journeys.specs.inner.Sides.{facts_of, square_at, AreRooms, IsPaidBy, IsSide, JourneysOf}
 
 -- whether only quiet steps count
 abbrev pub is_quiet : Measure → Bool
@@ -33,26 +32,31 @@ abbrev pub IsBudget : Placement → State → ℕ → Color → Measure → ℕ 
 IsBudget d p k c Moves n = n ≡ plies_left p.side c k
 IsBudget d p k c QuietMoves n = n + victims c p.board ≡ plies_left p.side c k + victims c d
 
--- the paths of a side by a measure, what they may count, and what fates cost where none castles
-pub record IsMeasured (x : Side) (quiet : Bool) (m : Measured) : Type 0 where
-  pub low : m.most < 200
-  pub aims : AreAims x quiet m.aims.now
-  pub size : m.costs.size ≡ x.men.count
-  pub rows : AreCostRows x quiet None m.most m.costs.rows x.men.count
+-- one is measured in moves, the other in quiet moves, of one side
+pub record ArePaired (m q : Measured) : Type 0 where
+  pub side : q.side.now ≡ m.side.now
+  pub moves : m.is_quiet ≡ false
+  pub quiet : q.is_quiet ≡ true
 
 -- one measure tells both: it is the other, or no capture may land
 abbrev pub IsSameBy : Side → Bool → Bool → Type 0
-IsSameBy x q r = (q ≡ r) ⊎ HasNoneFrom (landing x.ground.facts x.ground.color) 0
+IsSameBy x q r = (q ≡ r) ⊎ HasNoneFrom (landing x.terrain.facts x.terrain.color) 0
+
+-- the rooms of a side's men, whatever the diagram, by a measure and by each that is the same; some plan is paid for
+abbrev pub HasRooms : Side → Bool → Option Wing → ℕ → List (List ℕ) → Type 0
+HasRooms x quiet way most rooms =
+    (d : Placement) (same : Bool) → IsSide d x → IsSameBy x quiet same →
+    AreRooms d x same way most rooms × ((g : JourneysOf d x way) × IsPaidBy d x same way most g)
 
 -- what paths may count by both measures
 pub record AreBudgets (d : Placement) (x : Side) (k : ℕ) (moves quiet : ℕ) : Type 0 where
-  pub all : IsBudget d x.position k x.ground.color Moves moves
-  pub few : IsBudget d x.position k x.ground.color QuietMoves quiet
+  pub all : IsBudget d x.position k x.terrain.color Moves moves
+  pub few : IsBudget d x.position k x.terrain.color QuietMoves quiet
 
 -- both measures may count as much, and no capture may land: each step is a quiet move
 pub record IsOneMeasure (x : Side) (most fewest : ℕ) : Type 0 where
   pub same : most ≡ fewest
-  pub none : HasNoneFrom (landing x.ground.facts x.ground.color) 0
+  pub none : HasNoneFrom (landing x.terrain.facts x.terrain.color) 0
 
 -- the man i does not start where he stands, or by both measures he changes by some one end
 abbrev pub MayChange : Color → Men → Option Wing → Deeds → Deeds → ℕ → Type 0
@@ -140,8 +144,18 @@ pub record Shows (f : Facts) (d : Placement) (p : State) (k : ℕ) (c : Color) (
   pub stays : (j : Kind) (s : ℕ) → s < 64 → Stands p.board c j s →
       (has a.changed s ≡ false) ↔ ((way : Option Wing) → IsAlive f d p k c way → StaysIn f d p k c way s)
 
--- what the plans of a side show, whatever the diagram, where both measures may count so much: none where no way is alive
+-- what the plans of a side show, whatever the diagram, where paths may count `most` in moves and `fewest` in quiet moves: none where no way is alive
 abbrev pub IsShownBy : Side → ℕ → ℕ → Option Shown → Type 0
 IsShownBy x most fewest o =
     (d : Placement) (k : ℕ) → IsSide d x → AreBudgets d x k most fewest →
-    MatchOption o (IsDead (facts_of x) d x.position k x.ground.color) (λ a. Shows (facts_of x) d x.position k x.ground.color a)
+    MatchOption o (IsDead (facts_of x) d x.position k x.terrain.color) (λ a. Shows (facts_of x) d x.position k x.terrain.color a)
+
+-- the same of a side: a way is alive, what the plans of a way show, and those of some ways
+abbrev pub IsAliveFor : Placement → Side → ℕ → Option Wing → Type 0
+IsAliveFor d x k way = IsAlive (facts_of x) d x.position k x.terrain.color way
+
+abbrev pub ShowsWayFor : Placement → Side → ℕ → Option Wing → Shown → Shown → Type 0
+ShowsWayFor d x k way found a = ShowsWay (facts_of x) d x.position k x.terrain.color way found a
+
+abbrev pub ShowsAmongFor : Placement → Side → ℕ → List (Option Wing) → Option Shown → Type 0
+ShowsAmongFor d x k ways o = ShowsAmong (facts_of x) d x.position k x.terrain.color ways o

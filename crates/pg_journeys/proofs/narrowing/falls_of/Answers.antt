@@ -6,7 +6,7 @@ use Rattle.pg_position.specs.declared.state.State.{State}
 use Rattle.pg_journeys.specs.Journeys.{HasPassed}
 use Rattle.std.proofs.Common.{Some}
 use Rattle.pg_journeys.specs.inner.Narrowed.{StandsBy, PassedBy, FallsBy}
-use Rattle.pg_journeys.specs.declared.plans.Side.{Side}
+use Rattle.pg_journeys.specs.declared.side.Side.{Side}
 use Rattle.pg_journeys.specs.declared.plans.Walker.{Walker}
 use Rattle.pg_journeys.proofs.SiftedSets.{one_more}
 use Rattle.pg_journeys.proofs.narrowing.falls_of.Goals as goal
@@ -24,7 +24,7 @@ with_passed x m room falls all one more u low is_all passed is_more q l = (
     | inl b ↦ inl ((is_all q l).1 (inl b))
     | inr w ↦ elim w.1 [
       | inl b ↦ inl ((is_all q l).1 (inr b))
-      | inr b ↦ inr (one_passed x.position x.ground.color m.square u q passed.0 b.0)
+      | inr b ↦ inr (one_passed x.position x.terrain.color m.square u q passed.0 b.0)
     ]
   ]),
 )

@@ -1,4 +1,4 @@
-use Rattle.std.proofs.Common.{◌+◌, ◌<◌, get_or, subst, sym, arith}
+use Rattle.std.proofs.Common.{ℕ, ◌+◌, ◌<◌, get_or, subst, sym, arith}
 use Rattle.pg_journeys.specs.inner.Narrowed.{TakesTo, TakesBy}
 use Rattle.pg_journeys.proofs.NarrowedSteps.{with_set}
 use Rattle.pg_journeys.proofs.SiftedSets.{IsJoined, join_first, join_next, join_none}
@@ -17,3 +17,6 @@ loop-e-preserved c = elim c.if-rooms-e-lt255.branch [
   | else-rooms-e-lt255 w ↦ subst (IsJoined (TakesBy c.args.side.now c.args.man.now c.args.rooms.now) c.args.lands (c.loop-e.e + 1)) (sym w.all-is)
       (join_none (TakesBy c.args.side.now c.args.man.now c.args.rooms.now) c.args.lands c.loop-e.e c.loop-e.all (λ q t. (let some : get_or c.args.rooms.now c.loop-e.e 0 < 255 = t.0 in omega (arith, w.if-rooms-e-lt255.false))) c.loop-e.invariant)
 ]
+
+pub returns : goal.returns
+returns c = subst (λ (n : ℕ). IsJoined (TakesBy c.args.side.now c.args.man.now c.args.rooms.now) c.args.lands n c.loop-e.all) (omega (arith, c.loop-e.auto.e-end, c.loop-e-test.false)) c.loop-e.invariant

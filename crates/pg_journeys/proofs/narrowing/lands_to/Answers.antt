@@ -2,6 +2,7 @@ use Rattle.std.proofs.Common.{◌+◌, arith}
 use Rattle.pg_journeys.specs.inner.Narrowed.{IsInBoth, TakesAt}
 use Rattle.pg_journeys.proofs.NarrowedSteps.{with_set, all_added, all_taken}
 use Rattle.pg_journeys.proofs.SiftedSets.{join_first, join_next}
+use Rattle.pg_journeys.proofs.SideLemmas.{side_ground}
 use Rattle.pg_journeys.proofs.narrowing.lands_to.Goals as goal
 
 pub loop-i-init : goal.loop-i-init
@@ -17,3 +18,6 @@ loop-i-preserved c =
 pub returns : goal.returns
 returns c = all_taken c.args.side.now c.args.man.now c.args.reach.now c.args.e c.args.room c.last_taking-last.result c.loop-i.all c.requires.reach c.last_taking-last.ensures.low c.last_taking-last.ensures.last
     (all_added (TakesAt c.args.side.now c.args.man.now c.args.e c.args.room) c.empty-all.result c.loop-i.i (c.last_taking-last.result + 1) c.loop-i.all c.empty-all.ensures.none (omega (arith, c.loop-i-test.false, c.loop-i.auto.i-end)) c.loop-i.invariant)
+
+pub takes_within-taken-requires-clause-sound : goal.takes_within-taken-requires-clause-sound
+takes_within-taken-requires-clause-sound c = side_ground c.args.side.now

@@ -4,4 +4,4 @@ use Rattle.pg_journeys.specs.inner.Walking.{IsRound}
 use Rattle.pg_journeys.proofs.needs.dead_in_rounds.Given as goal
 
 abbrev pub invariant-loop : goal.invariant-loop
-invariant-loop l = (l.counter ≤ 3) × IsRound l.fn.diagram l.fn.position l.fn.left l.counter (known l.facts)
+invariant-loop l = (l.counter ≤ 3) × IsRound l.fn.course.diagram.now l.fn.course.position.now l.fn.course.left l.counter (known l.facts)

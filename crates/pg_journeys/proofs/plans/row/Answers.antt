@@ -1,12 +1,13 @@
 use Rattle.std.proofs.Common.{◌+◌, refl, arith, ◌∙◌}
 use Rattle.std.proofs.Math.ListN.{length-set}
 use Rattle.pg_journeys.proofs.CostLemmas.{comes_next, row_full, row_falls}
+use Rattle.pg_journeys.proofs.SideLemmas.{goals_few}
 use Rattle.pg_journeys.proofs.plans.row.Goals as goal
 
 pub loop-j-preserved : goal.loop-j-preserved
 loop-j-preserved c = record {
   long = length-set c.loop-j.row c.loop-j.j c.arrival.result ∙ c.loop-j.invariant.long;
-  is = comes_next c.args.side.now c.args.most c.args.man.now.runner c.loop-j.row c.loop-j.j (c.loop-j.j + 1) c.arrival.result refl (omega (arith, c.loop-j.invariant.long, c.loop-j-test.true, c.requires.side.1.goals.few)) c.arrival.ensures c.loop-j.invariant.is;
+  is = comes_next c.args.side.now c.args.most c.args.man.now.runner c.loop-j.row c.loop-j.j (c.loop-j.j + 1) c.arrival.result refl (omega (arith, c.loop-j.invariant.long, c.loop-j-test.true, goals_few c.args.side.now)) c.arrival.ensures c.loop-j.invariant.is;
 }
 
 pub returns-then-side : goal.returns-then-side

@@ -1,5 +1,6 @@
 use Rattle.pg_journeys.proofs.Budgets.{owes_too_much}
+use Rattle.pg_journeys.specs.Known.{known}
 use Rattle.pg_journeys.proofs.rounds.owes_more.Goals as goal
 
 pub returns-in-None : goal.returns-in-None
-returns-in-None c = λ f t. owes_too_much f c.args.diagram.now c.args.position.now c.args.left c.args.color c.in-None.ensures.none
+returns-in-None c = λ f t. owes_too_much (known f) c.args.course.now.diagram.now c.args.course.now.position.now c.args.course.now.left c.args.color c.in-None.ensures.none

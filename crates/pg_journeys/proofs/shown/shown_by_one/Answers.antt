@@ -1,5 +1,13 @@
-use Rattle.pg_journeys.proofs.OneMeasure.{measured_too}
+use Rattle.std.proofs.Common.{sym, subst, ◌∙◌}
+use Rattle.pg_board.specs.SquareSets.{HasNoneFrom}
+use Rattle.pg_journeys.specs.Known.{landing}
+use Rattle.pg_journeys.specs.declared.side.Side.{Side}
+use Rattle.pg_journeys.proofs.Budgets.{shown_as}
 use Rattle.pg_journeys.proofs.shown.shown_by_one.Goals as goal
 
-pub ways_shown-requires-clause-quiet : goal.ways_shown-requires-clause-quiet
-ways_shown-requires-clause-quiet c = measured_too c.args.side.now _ c.args.most c.requires.one c.by_measure-moves.ensures.measured
+pub in_quiet_moves-requires-clause-none : goal.in_quiet_moves-requires-clause-none
+in_quiet_moves-requires-clause-none c = subst (λ (x : Side). HasNoneFrom (landing x.terrain.facts x.terrain.color) 0) (sym c.by_measure-moves.ensures.side) c.requires.none
+
+pub returns : goal.returns
+returns c = shown_as c.args.side.now c.by_measure-moves.result.side.now _ _ c.args.budgets.now.moves c.args.budgets.now.quiet c.ways_shown.result c.by_measure-moves.ensures.side c.by_measure-moves.ensures.most
+    (c.in_quiet_moves.ensures.most ∙ c.by_measure-moves.ensures.most ∙ c.requires.same) c.ways_shown.ensures
