@@ -8,6 +8,7 @@ use pg_fen::{Diagram, Length};
 use pg_journeys::Journeys;
 use pg_pawns::PawnFiles;
 use pg_travel::Travel;
+use pg_trial::append_spelled;
 use std::fmt::{Debug, Display, Write};
 use std::process::Abort;
 use std::str;
@@ -27,9 +28,16 @@ en-passant rnbqkbnr/1pp1pppp/p2P4/8/8/8/PPPP1PPP/RNBQKBNR
 recaptured rnb1kbnr/ppp1pppp/8/3q4/8/8/PPPP1PPP/RNBQKBNR
 fools-mate rnb1kbnr/pppp1ppp/8/4p3/6Pq/5P2/PPPPP2P/RNBQKBNR
 schweig r1bqkbnr/ppp2ppp/3p4/8/8/8/PPPPPPPP/R1BQKBNR
+knight-gone rnbqkbnr/pppppppp/8/8/8/8/PPPPPPPP/RNBQKB1R
+rook-for-pawns Rnb1kbnr/p1p1pppp/8/3p4/8/8/1PPPPP2/RNBQ1KNR
+two-bishops-out rnbqk1nr/ppppppbp/6p1/8/8/5NP1/PPPPPPBP/RNBQ1RK1
+castled-apart 2kr3r/8/8/8/8/8/8/R4RK1
+sixteen-queens QQQQKQQQ/QQQQQQQQ/Q7/8/8/8/8/4k3
 shut-in rnbqkbnr/1pppppp1/p6p/8/8/P3B2P/1PPPPPP1/RN1QKBNR
 start rnbqkbnr/pppppppp/8/8/8/8/PPPPPPPP/RNBQKBNR w KQkq - 0 1
 middle-game r3k2r/p1ppqpb1/bn2pnp1/3PN3/1p2P3/2N2Q1p/PPPBBPPP/R3K2R w KQkq - 0 1
+castlers r3k2r/8/8/8/8/8/8/R3K2R w KQkq - 0 1
+far-pawns 4k3/P1P4p/1p4P1/8/8/8/p5pP/4K2R w K - 0 1
 endgame 8/2p5/3p4/KP5r/1R3p1k/8/4P1P1/8 w - - 0 1
 mated rnb1kbnr/pppp1ppp/8/4p3/6Pq/5P2/PPPPP2P/RNBQKBNR w KQkq - 1 3";
 
@@ -98,20 +106,10 @@ pub(crate) fn told<T: Debug, E: Debug + Display>(answer: &Result<T, E>) -> Said 
     }
 }
 
-// The bytes that a text spells: words of at most eight bytes, two digits a byte, and behind a star how many
-// times they stand there, as in `01 0204*13`.
+// The bytes that a text spells.
 pub(crate) fn spelled<R: Abort + AllocGlobal>(rt: &R, text: &str) -> Vec<u8> {
     let mut bytes = Vec::new(rt.alloc());
-    for word in text.split_whitespace() {
-        let (digits, times) = word.split_once('*').unwrap_or((word, "1"));
-        let number = u64::from_str_radix(digits, 16).expect(rt, word);
-        let times = times.parse::<u32>().expect(rt, word);
-        let unused = 8usize.saturating_sub(digits.len() / 2);
-        for _ in 0..times {
-            let piece = &number.to_be_bytes()[unused..];
-            bytes.extend_from_slice(piece).expect(rt, "memory");
-        }
-    }
+    assert!(rt; append_spelled(&mut bytes, text), "{text}");
     bytes
 }
 

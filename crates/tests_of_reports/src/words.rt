@@ -1,11 +1,11 @@
-//! What is said of a cut, by distances to a diagram and without them, is what the old form says: over games of drawn
-//! moves, each position asked about diagrams of other such games.
+//! What is said of a cut, by distances to a diagram and without them, is what an earlier form said, which is gone: over
+//! games of drawn moves, each position asked about diagrams of other such games. The rows were made by that form at
+//! commit 3b37d7f5.
 
 mod journeys;
 mod longest;
-mod start;
 
-use crate::shared::{diagram_of, named};
+use crate::shared::{Said, diagram_of, field, halves, named, words};
 use pg_board::Color;
 use pg_certificate::{Bare, Record};
 use pg_fen::{Diagram, read_position};
@@ -19,15 +19,8 @@ use pg_sentences::{
     reason_of_bounds, reason_of_cut,
 };
 use pg_travel::Travel;
+use pg_trial::Digest;
 use std::process::Abort;
-
-// Where games begin: with all rights to castle, with men that can castle at once, and with pawns near their last ranks.
-const STARTS: [&str; 4] = [
-    "start",
-    "middle-game",
-    "r3k2r/8/8/8/8/8/8/R3K2R w KQkq - 0 1",
-    "4k3/P1P4p/1p4P1/8/8/8/p5pP/4K2R w K - 0 1",
-];
 
 // A number below a bound, drawn by a fixed rule from the last one.
 fn drawn(state: &mut u64, bound: u64) -> u64 {
@@ -68,7 +61,7 @@ fn moved(state: &mut u64, position: &Position) -> Position {
     }
 }
 
-// What is said by distances is what is wanted.
+// What is said by distances is what is said without them.
 fn check_same(rt: &impl Abort, code: Option<u8>, words: &Sentence, wanted: &Option<Grounds>) {
     let same = match wanted {
         Some(grounds) => code == Some(grounds.code) && words.as_str() == grounds.text.as_str(),
@@ -77,56 +70,66 @@ fn check_same(rt: &impl Abort, code: Option<u8>, words: &Sentence, wanted: &Opti
     assert!(rt; same, "{words}");
 }
 
-// What is said without distances is what is wanted.
-fn check_grounds(rt: &impl Abort, found: &Option<Grounds>, wanted: &Option<Grounds>) {
-    match found {
-        Some(grounds) => check_same(rt, Some(grounds.code), &grounds.text, wanted),
-        None => check_same(rt, None, &Sentence::new(), wanted),
-    }
-}
-
-// The distances to a diagram in both forms: all of them, and those that are asked for.
+// The distances to a diagram in both forms, all of them and those that are asked for; and what was said of the nodes of
+// a game: how often, and the digest of it.
 #[derive(Drop)]
-struct Both {
+struct Told {
     all: Distances,
     growing: GrowingDistances,
+    count: u32,
+    digest: Digest,
 }
 
-impl Both {
-    fn new(diagram: &Diagram) -> Both {
-        Both {
-            all: Distances::new(diagram),
-            growing: GrowingDistances::new(diagram),
+impl Told {
+    fn new(of: &Diagram) -> Told {
+        Told {
+            all: Distances::new(of),
+            growing: GrowingDistances::new(of),
+            count: 0,
+            digest: Digest::new(),
         }
+    }
+
+    fn tell(&mut self, found: &Option<Grounds>) {
+        if let Some(grounds) = found {
+            let is_said = !grounds.text.as_str().is_empty();
+            self.count = self.count.saturating_add(u32::from(is_said));
+            self.digest.add(u64::from(grounds.code));
+            self.digest.add_bytes(grounds.text.as_str().as_bytes());
+        }
+        self.digest.add(u64::MAX);
+    }
+
+    fn row(&self) -> Said {
+        words(&format_args!("{} {:016x}", self.count, self.digest.value()))
     }
 }
 
-// So it is for a record at a node, whose price lists stand by themselves too.
+// Tells what is said of a record at a node, whose price lists stand by themselves too.
 fn check_record(
     rt: &impl Abort,
-    distances: &mut Both,
+    told: &mut Told,
     node: &Node,
     said: &Bare,
     prices: &Prices,
     record: &Record,
 ) {
+    let found = reason_of_cut(node.diagram, node.position, node.left, record);
+    told.tell(&found);
     let mut words = Sentence::new();
-    let code = put_reason_of_cut(&distances.all, node, said, prices, &mut words);
-    let wanted = start::reason_of_cut(node.diagram, node.position, node.left, record);
-    check_same(rt, code, &words, &wanted);
+    let code = put_reason_of_cut(&told.all, node, said, prices, &mut words);
+    check_same(rt, code, &words, &found);
     let mut words = Sentence::new();
-    let code = distances
+    let code = told
         .growing
         .put_reason_of_cut(node, said, prices, &mut words);
-    check_same(rt, code, &words, &wanted);
-    let found = reason_of_cut(node.diagram, node.position, node.left, record);
-    check_grounds(rt, &found, &wanted);
+    check_same(rt, code, &words, &found);
 }
 
 // So it is for a record of price lists.
 fn check_priced(
     rt: &impl Abort,
-    distances: &mut Both,
+    told: &mut Told,
     node: &Node,
     code: u8,
     color: Color,
@@ -138,43 +141,42 @@ fn check_priced(
         color,
         prices,
     };
-    check_record(rt, distances, node, &said, &prices, &record);
+    check_record(rt, told, node, &said, &prices, &record);
 }
 
 // So it is for the price lists that a search gives for a colour.
-fn check_lists(rt: &impl Abort, distances: &mut Both, node: &Node, rows: &Rows) {
+fn check_lists(rt: &impl Abort, told: &mut Told, node: &Node, rows: &Rows) {
     let color = rows.color();
     let lists = pawn_lists(rows, node.position).1;
     let prices = prices_of(lists.as_slice()).expect(rt, "prices of pawns");
-    check_priced(rt, distances, node, PawnFiles::CODE, color, prices);
+    check_priced(rt, told, node, PawnFiles::CODE, color, prices);
     let lists = travel_lists(rows, node.position).1;
     let prices = prices_of(lists.as_slice()).expect(rt, "prices of travel");
-    check_priced(rt, distances, node, Travel::CODE, color, prices);
+    check_priced(rt, told, node, Travel::CODE, color, prices);
 }
 
 // So it is for each of the other records, one of them with a code that no bound has, and for what excludes first. The
-// old form knows no journeys.
-fn check_node(rt: &impl Abort, distances: &mut Both, node: &Node) {
+// earlier form knew no journeys.
+fn check_node(rt: &impl Abort, told: &mut Told, node: &Node) {
     let prices = Prices::new(&[], &[]).expect(rt, "no prices");
     for code in [1u8, 2, 3, 4, 6] {
         let (said, record) = (Bare::Cut(code), Record::Cut(code));
-        check_record(rt, distances, node, &said, &prices, &record);
-        check_priced(rt, distances, node, code, Color::Black, prices);
+        check_record(rt, told, node, &said, &prices, &record);
+        check_priced(rt, told, node, code, Color::Black, prices);
     }
     let named = true;
     let (said, record) = (Bare::Expand { named }, Record::Expand { named });
-    check_record(rt, distances, node, &said, &prices, &record);
+    check_record(rt, told, node, &said, &prices, &record);
     let (said, record) = (Bare::Ref(7), Record::Ref(7));
-    check_record(rt, distances, node, &said, &prices, &record);
-    let mut words = Sentence::new();
-    let code = put_reason_of_bounds(&distances.all, node, &mut words);
-    let wanted = start::reason_of_bounds(node.diagram, node.position, node.left);
-    check_same(rt, code, &words, &wanted);
-    let mut words = Sentence::new();
-    let code = distances.growing.put_reason_of_bounds(node, &mut words);
-    check_same(rt, code, &words, &wanted);
+    check_record(rt, told, node, &said, &prices, &record);
     let found = reason_of_bounds(node.diagram, node.position, node.left);
-    check_grounds(rt, &found, &wanted);
+    told.tell(&found);
+    let mut words = Sentence::new();
+    let code = put_reason_of_bounds(&told.all, node, &mut words);
+    check_same(rt, code, &words, &found);
+    let mut words = Sentence::new();
+    let code = told.growing.put_reason_of_bounds(node, &mut words);
+    check_same(rt, code, &words, &found);
 }
 
 // What a search reckons a colour's prices by.
@@ -182,15 +184,15 @@ fn rows_of<R: Abort + AllocGlobal>(rt: &R, color: Color, diagram: &Diagram) -> R
     Rows::new(rt.alloc(), color, diagram).expect(rt, "memory")
 }
 
-// So it is along a game from a start, for one diagram, by distances to this one or to another.
-fn check_game_by<R: Abort + AllocGlobal>(
+// What is said along a game from a start, for one diagram, by distances to this one or to another.
+fn said_along<R: Abort + AllocGlobal>(
     rt: &R,
     state: &mut u64,
     start: &Position,
     diagram: &Diagram,
     of: &Diagram,
-) {
-    let mut distances = Both::new(of);
+) -> Said {
+    let mut told = Told::new(of);
     let white = rows_of(rt, Color::White, diagram);
     let black = rows_of(rt, Color::Black, diagram);
     let mut position = *start;
@@ -201,22 +203,13 @@ fn check_game_by<R: Abort + AllocGlobal>(
             position: &position,
             left,
         };
-        check_node(rt, &mut distances, &node);
-        check_lists(rt, &mut distances, &node, &white);
-        check_lists(rt, &mut distances, &node, &black);
+        check_node(rt, &mut told, &node);
+        check_lists(rt, &mut told, &node, &white);
+        check_lists(rt, &mut told, &node, &black);
         let next = moved(state, &position);
         position = next;
     }
-}
-
-// So it is along a game from a start, by distances to the diagram that is asked about.
-fn check_game<R: Abort + AllocGlobal>(
-    rt: &R,
-    state: &mut u64,
-    start: &Position,
-    diagram: &Diagram,
-) {
-    check_game_by(rt, state, start, diagram, diagram);
+    told.row()
 }
 
 // The position at the end of a game of drawn moves.
@@ -229,36 +222,109 @@ fn end_of(state: &mut u64, start: &Position, plies: u64) -> Position {
     position
 }
 
+// Where a game begins.
+fn start_of(rt: &impl Abort, text: &str) -> Position {
+    read_position(named(text)).expect(rt, text).position
+}
+
+// Where games begin: with all rights to castle, with men that can castle at once, and with pawns near their last ranks;
+// how many plies the game has that ends on the diagram; how often something is said along another game, and the digest
+// of it.
+const GAMES: &str = "start | 4 => 161 8bc9822ed1101ac5
+start | 6 => 133 873e5ec40f825854
+start | 8 => 173 d823c21ca0fc3b24
+start | 10 => 128 49aeb726580dca38
+start | 12 => 169 727f02852b756660
+start | 14 => 141 428f29c0f5696dbe
+start | 16 => 131 14a0201b19cbe1e7
+start | 18 => 151 b0c0c3c0d9f2a517
+start | 20 => 138 512c6ca2495ab47c
+start | 22 => 152 2728cab833396d13
+middle-game | 4 => 160 354b407320430d1d
+middle-game | 6 => 191 9384ba64e799dd34
+middle-game | 8 => 158 e68014fa002433cb
+middle-game | 10 => 184 4d8bf5928f00e400
+middle-game | 12 => 130 36cb3d6952f107a2
+middle-game | 14 => 192 9d84731ba0364fdd
+middle-game | 16 => 188 2d391637c528d2ef
+middle-game | 18 => 166 0021109d7d88433f
+middle-game | 20 => 175 0bf14571242a303d
+middle-game | 22 => 187 d9a3b80fcfc89d85
+castlers | 4 => 125 014d662a86c37353
+castlers | 6 => 105 742adec8d63c74d5
+castlers | 8 => 212 01a7f3916446914b
+castlers | 10 => 147 3b1de67260fcc227
+castlers | 12 => 55 013398330f5d523e
+castlers | 14 => 64 723f94059be8915c
+castlers | 16 => 184 23067e4371b866a2
+castlers | 18 => 70 03ab4dfa6ff0bee8
+castlers | 20 => 166 90272dad56d002ca
+castlers | 22 => 175 b2394de2131f8b0a
+far-pawns | 4 => 203 483cf86aebc139c2
+far-pawns | 6 => 207 8f2cb96a36c46332
+far-pawns | 8 => 175 6df78fcf54cf14af
+far-pawns | 10 => 193 aa702bfd732d5e40
+far-pawns | 12 => 200 8659bbc22caa2ba9
+far-pawns | 14 => 200 52f89e56445954fe
+far-pawns | 16 => 192 2259027474d7ed78
+far-pawns | 18 => 125 244471ba743ae922
+far-pawns | 20 => 179 970c7df8c0c90920
+far-pawns | 22 => 178 1c5a837bfc16e659";
+
 #[test]
 fn by_distances_as_without(rt: HostRuntime) {
     let mut state = 1u64;
-    for text in STARTS {
-        let start = read_position(named(text)).expect(&rt, text).position;
-        for plies in 2..12u64 {
-            let end = end_of(&mut state, &start, 2 * plies);
-            check_game(&rt, &mut state, &start, &Diagram::of(&end));
-        }
+    for row in GAMES.lines() {
+        let (asked, wanted) = halves(&rt, row, " => ");
+        let start = start_of(&rt, field(asked, 0));
+        let plies = field(asked, 1).parse().expect(&rt, row);
+        let diagram = Diagram::of(&end_of(&mut state, &start, plies));
+        let said = said_along(&rt, &mut state, &start, &diagram, &diagram);
+        assert_eq!(rt; said.as_str(), wanted, "{asked}");
+    }
+}
+
+// A row of a start, a diagram, and one to which the distances are, where it is another; and what is said along a game.
+fn check_along<R: Abort + AllocGlobal>(rt: &R, row: &str, state: &mut u64) {
+    let (asked, wanted) = halves(rt, row, " => ");
+    let start = start_of(rt, field(asked, 0));
+    let diagram = diagram_of(rt, field(asked, 1));
+    let of = match field(asked, 2) {
+        "" => diagram,
+        text => diagram_of(rt, text),
+    };
+    let said = said_along(rt, state, &start, &diagram, &of);
+    assert_eq!(rt; said.as_str(), wanted, "{asked}");
+}
+
+fn check_table<R: Abort + AllocGlobal>(rt: &R, table: &str, seed: u64) {
+    let mut state = seed;
+    for row in table.lines() {
+        check_along(rt, row, &mut state);
     }
 }
 
 // Diagrams of castled kings, on either wing.
-const CASTLED: [&str; 4] = [
-    "r4rk1/8/8/8/8/8/8/2KR3R",
-    "2kr3r/8/8/8/8/8/8/R4RK1",
-    "rnbq1rk1/pppp1ppp/5n2/2b1p3/2B1P3/5N2/PPPP1PPP/RNBQ1RK1",
-    "2kr1bnr/pppqpppp/2n1b3/3p4/3P4/2N1B3/PPPQPPPP/2KR1BNR",
-];
+const CASTLED: &str = "start | r4rk1/8/8/8/8/8/8/2KR3R => 62 62b226a5c6f803d9
+middle-game | r4rk1/8/8/8/8/8/8/2KR3R => 70 fa3cb2ac1b2ceffa
+castlers | r4rk1/8/8/8/8/8/8/2KR3R => 76 c5ca36948a5041b4
+far-pawns | r4rk1/8/8/8/8/8/8/2KR3R => 111 367dc30b863b2a4d
+start | castled-apart => 65 f8e8faaca1474616
+middle-game | castled-apart => 70 f66221b95a64fc2f
+castlers | castled-apart => 52 de49d8c63bf58039
+far-pawns | castled-apart => 110 65dbc5fd47e2178c
+start | rnbq1rk1/pppp1ppp/5n2/2b1p3/2B1P3/5N2/PPPP1PPP/RNBQ1RK1 => 153 ed0f0c985e265386
+middle-game | rnbq1rk1/pppp1ppp/5n2/2b1p3/2B1P3/5N2/PPPP1PPP/RNBQ1RK1 => 189 44ca3057b0a7966e
+castlers | rnbq1rk1/pppp1ppp/5n2/2b1p3/2B1P3/5N2/PPPP1PPP/RNBQ1RK1 => 216 0b1831d3410f5d05
+far-pawns | rnbq1rk1/pppp1ppp/5n2/2b1p3/2B1P3/5N2/PPPP1PPP/RNBQ1RK1 => 216 7a44285194237a9d
+start | 2kr1bnr/pppqpppp/2n1b3/3p4/3P4/2N1B3/PPPQPPPP/2KR1BNR => 142 6c6ca859c545d29d
+middle-game | 2kr1bnr/pppqpppp/2n1b3/3p4/3P4/2N1B3/PPPQPPPP/2KR1BNR => 192 ae7b846f4c7926da
+castlers | 2kr1bnr/pppqpppp/2n1b3/3p4/3P4/2N1B3/PPPQPPPP/2KR1BNR => 216 879420dc997e9e37
+far-pawns | 2kr1bnr/pppqpppp/2n1b3/3p4/3P4/2N1B3/PPPQPPPP/2KR1BNR => 216 5a494e9dd6c64b9f";
 
 #[test]
 fn castling_by_distances_as_without(rt: HostRuntime) {
-    let mut state = 3u64;
-    for text in CASTLED {
-        let diagram = diagram_of(&rt, text);
-        for text in STARTS {
-            let start = read_position(named(text)).expect(&rt, text).position;
-            check_game(&rt, &mut state, &start, &diagram);
-        }
-    }
+    check_table(&rt, CASTLED, 3);
 }
 
 // The words for a cut by travel of a position with no ply left.
@@ -277,7 +343,7 @@ fn words_of(diagram: &Diagram, position: &Position) -> Sentence {
 // King and rook come to their squares by one move, where without castling they need three.
 #[test]
 fn castling_is_named(rt: HostRuntime) {
-    let start = read_position(STARTS[2]).expect(&rt, "start").position;
+    let start = start_of(&rt, "castlers");
     let words = words_of(&diagram_of(&rt, "r3k2r/8/8/8/8/8/8/2KR3R"), &start);
     let wanted = "white needs 1 move and has 0 (travel, castling queen side)";
     assert!(rt; words.as_str() == wanted, "{words}");
@@ -287,36 +353,42 @@ fn castling_is_named(rt: HostRuntime) {
 }
 
 // More than sixteen men of a colour, of whom the distances keep no rows.
+const CROWDS: &str = "start | sixteen-queens => 166 28377d5bb32ec489
+start | fools-mate | sixteen-queens => 169 520c9bcced30fac7";
+
 #[test]
 fn where_distances_do_not_serve(rt: HostRuntime) {
-    let mut state = 2u64;
-    let crowd = diagram_of(&rt, "QQQQKQQQ/QQQQQQQQ/Q7/8/8/8/8/4k3");
-    let fools_mate = diagram_of(&rt, "fools-mate");
-    check_game(&rt, &mut state, &Position::array(), &crowd);
-    check_game_by(&rt, &mut state, &Position::array(), &fools_mate, &crowd);
+    check_table(&rt, CROWDS, 2);
 }
 
 // Diagrams with sixteen men of each colour at most, of which each is asked about by distances to the next.
-const OTHERS: [&str; 6] = [
-    "fools-mate",
-    "array",
-    "2kr3r/8/8/8/8/8/8/R4RK1",
-    "rnbqk1nr/ppppppbp/6p1/8/8/5NP1/PPPPPPBP/RNBQ1RK1",
-    "Rnb1kbnr/p1p1pppp/8/3p4/8/8/1PPPPP2/RNBQ1KNR",
-    "rnbqkbnr/pppppppp/8/8/8/8/PPPPPPPP/RNBQKB1R",
-];
+const OTHERS: &str = "start | knight-gone | fools-mate => 163 f46fc545d35080f8
+middle-game | knight-gone | fools-mate => 178 61d678e443b78b78
+castlers | knight-gone | fools-mate => 216 781a0ad70d8c791f
+far-pawns | knight-gone | fools-mate => 216 eb68a10e31b2067c
+start | rook-for-pawns | knight-gone => 168 22232a56ed777b41
+middle-game | rook-for-pawns | knight-gone => 159 5cff5d2fda4440a6
+castlers | rook-for-pawns | knight-gone => 216 0e460adcd982eee7
+far-pawns | rook-for-pawns | knight-gone => 216 d3f207297fdbf88a
+start | two-bishops-out | rook-for-pawns => 148 517a36fa4cca55a0
+middle-game | two-bishops-out | rook-for-pawns => 183 8eb29afe84322435
+castlers | two-bishops-out | rook-for-pawns => 216 5ee21741d53a7445
+far-pawns | two-bishops-out | rook-for-pawns => 216 972259c3919aaf50
+start | castled-apart | two-bishops-out => 54 06be546854b06723
+middle-game | castled-apart | two-bishops-out => 61 92259d24ed799007
+castlers | castled-apart | two-bishops-out => 59 529729016ae1c197
+far-pawns | castled-apart | two-bishops-out => 98 e275a8edac16d1dc
+start | array | castled-apart => 136 8e0e773798866d2d
+middle-game | array | castled-apart => 189 0cecb2b2d33820bc
+castlers | array | castled-apart => 216 3aeff13da5cd92bb
+far-pawns | array | castled-apart => 216 a92bfae6f308aa6d
+start | fools-mate | array => 168 457d2c0de252eb03
+middle-game | fools-mate | array => 213 27f35cd6bd9f3d9a
+castlers | fools-mate | array => 216 087646da0ca813f2
+far-pawns | fools-mate | array => 216 07b57dcdb9b4c616";
 
 // Distances to another diagram tell nothing, though they have all of its men.
 #[test]
 fn distances_to_another_diagram(rt: HostRuntime) {
-    let mut state = 4u64;
-    let mut of = diagram_of(&rt, OTHERS[0]);
-    for text in OTHERS.iter().rev() {
-        let diagram = diagram_of(&rt, text);
-        for text in STARTS {
-            let start = read_position(named(text)).expect(&rt, text).position;
-            check_game_by(&rt, &mut state, &start, &diagram, &of);
-        }
-        of = diagram;
-    }
+    check_table(&rt, OTHERS, 4);
 }

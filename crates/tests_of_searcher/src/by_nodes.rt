@@ -1,13 +1,16 @@
-//! Searches held against those of the searcher's first form, which goes from node to node (`searcher_by_nodes`): over
-//! games by chance, with limits that suffice and others that do not.
+//! Searches held to what an earlier form of the searcher said, which went from node to node and is gone: over games by
+//! chance, with limits that suffice and others that do not. The rows were made by that form at commit 3b37d7f5.
 
 mod journeys;
 mod led;
 mod searches;
 
-use crate::shared::{Said, chosen, games_of, next, words};
+use crate::shared::{Said, chosen, end_of, field, games_of, halves, next, number, words};
 use pg_position::{Move, Position};
 use pg_san::Games;
+use pg_searcher::*;
+use pg_trial::Digest;
+use std::fmt::Write;
 use std::process::Abort;
 
 // Games that others begin with: none; with promotions of either side, castling on either wing, a capture en passant,
@@ -20,34 +23,25 @@ const BEGUN: &str = "
 1. h4 a5 2. Rh3 Ra6 3. Rb3 Rh6
 1. e4 a6 2. e5 d5 3. exd6";
 
-// What was told, as a digest: FNV-1a with 64 bits, a number at a time.
+// All that was told, as a digest.
 #[derive(Drop)]
 struct Heard {
-    state: u64,
+    digest: Digest,
 }
 
 impl Heard {
     fn new() -> Heard {
         Heard {
-            state: 0xcbf2_9ce4_8422_2325,
-        }
-    }
-
-    fn hear(&mut self, number: u64) {
-        self.state = (self.state ^ number).wrapping_mul(0x0000_0100_0000_01b3);
-    }
-
-    fn hear_bytes(&mut self, bytes: &[u8]) {
-        for byte in bytes {
-            self.hear(u64::from(*byte));
+            digest: Digest::new(),
         }
     }
 
     fn hear_game(&mut self, game: &[Move]) {
         for m in game {
-            self.hear_bytes(words(&format_args!("{m:?}")).as_str().as_bytes());
+            self.digest
+                .add_bytes(words(&format_args!("{m:?}")).as_str().as_bytes());
         }
-        self.hear(u64::MAX);
+        self.digest.add(u64::MAX);
     }
 
     fn hear_games(&mut self, games: &Games) {
@@ -59,10 +53,10 @@ impl Heard {
     }
 }
 
-impl pg_searcher::SearchProgress for Heard {
+impl SearchProgress for Heard {
     fn reached(&mut self, plies: u8, left: u64) {
-        self.hear(u64::from(plies));
-        self.hear(left);
+        self.digest.add(u64::from(plies));
+        self.digest.add(left);
     }
 
     fn met(&mut self, game: &[Move]) {
@@ -70,31 +64,43 @@ impl pg_searcher::SearchProgress for Heard {
     }
 }
 
-impl searcher_by_nodes::SearchProgress for Heard {
-    fn reached(&mut self, plies: u8, left: u64) {
-        self.hear(u64::from(plies));
-        self.hear(left);
-    }
-
-    fn met(&mut self, game: &[Move]) {
-        self.hear_game(game);
+impl LedProgress for Heard {
+    fn reached(&mut self, foreign: u8, plies: u8, left: u64) {
+        self.digest.add(u64::from(foreign));
+        self.digest.add(u64::from(plies));
+        self.digest.add(left);
     }
 }
 
-impl pg_searcher::LedProgress for Heard {
-    fn reached(&mut self, foreign: u8, plies: u8, left: u64) {
-        self.hear(u64::from(foreign));
-        self.hear(u64::from(plies));
-        self.hear(left);
+// What some searches answered, a bar between two of them; and all that they told.
+#[derive(Drop)]
+struct Batch {
+    said: Said,
+    heard: Heard,
+}
+
+impl Batch {
+    fn new() -> Batch {
+        Batch {
+            said: Said::new(),
+            heard: Heard::new(),
+        }
+    }
+
+    fn add(&mut self, said: &str) {
+        let _ = write!(self.said, "{said} | ");
+    }
+
+    // The answers with the digest behind them.
+    fn row(&self) -> Said {
+        words(&format_args!("{}{:016x}", self.said.as_str(), self.heard.digest.value()))
     }
 }
 
-impl searcher_by_nodes::LedProgress for Heard {
-    fn reached(&mut self, foreign: u8, plies: u8, left: u64) {
-        self.hear(u64::from(foreign));
-        self.hear(u64::from(plies));
-        self.hear(left);
-    }
+// The beginning that stands in a row by its number, from 0.
+fn begun_in(rt: &impl Abort, row: &str) -> &'static str {
+    let at = number(rt, field(row, 0));
+    BEGUN.split('\n').nth(at as usize).expect(rt, row)
 }
 
 // A number below a bound by chance.

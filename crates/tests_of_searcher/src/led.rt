@@ -5,26 +5,14 @@ mod growths;
 mod limits;
 mod nodes;
 
-use crate::shared::{Said, field, games_of, goal_of, halves, number, words};
+use crate::shared::{Said, end_of, field, games_of, goal_of, halves, number, words};
 use pg_fen::{Diagram, Length};
 use pg_moves::Unwatched;
-use pg_position::{Move, Position};
+use pg_position::Move;
 use pg_san::{Games, read_games};
 use pg_searcher::*;
 use std::alloc::Global;
 use std::process::Abort;
-
-// Where a game ends, if it is one.
-fn end_of(game: &[Move]) -> Option<Position> {
-    let mut position = Position::array();
-    for m in game {
-        match position.play(*m) {
-            Ok(next) => position = next,
-            Err(_) => return None,
-        }
-    }
-    Some(position)
-}
 
 // A diagram and a length, and games that lead.
 #[derive(Drop)]

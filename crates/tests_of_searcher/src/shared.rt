@@ -1,5 +1,5 @@
-//! What the tests of searches share: a diagram and a length, fields of a row, what is answered in words, and moves by
-//! chance.
+//! What the tests of searches share: a diagram and a length, fields of a row, what is answered in words, where a game
+//! ends, and moves by chance.
 
 use arrayvec::ArrayString;
 use pg_fen::{Diagram, Length};
@@ -73,6 +73,18 @@ pub(crate) fn words(text: &impl Display) -> Said {
 pub(crate) fn games_of<R: Abort + AllocGlobal>(rt: &R, text: &str) -> Games {
     let text = text.replace(rt.alloc(), '/', "\n").expect(rt, text);
     read_games(rt.alloc(), text.as_str()).expect(rt, text.as_str())
+}
+
+// Where a game ends, if it is one.
+pub(crate) fn end_of(game: &[Move]) -> Option<Position> {
+    let mut position = Position::array();
+    for m in game {
+        match position.play(*m) {
+            Ok(next) => position = next,
+            Err(_) => return None,
+        }
+    }
+    Some(position)
 }
 
 // The legal move with this number, counted round; none where there is no move.

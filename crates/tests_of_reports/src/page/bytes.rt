@@ -6,6 +6,7 @@ use super::*;
 use crate::shared::{diagram_of, length_of, words};
 use pg_certificate::Refused;
 use pg_report::search;
+use pg_trial::Digest;
 
 // Problems by their names: a diagram, a length, and the certificate's version and records. Where no records stand a
 // search makes it.
@@ -168,15 +169,6 @@ impl Sink for Pushes {
     }
 }
 
-// The digest of bytes, FNV-1a with 64 bits.
-fn digest(bytes: &[u8]) -> u64 {
-    let mut state = 0xcbf2_9ce4_8422_2325u64;
-    for byte in bytes {
-        state = (state ^ u64::from(*byte)).wrapping_mul(0x0000_0100_0000_01b3);
-    }
-    state
-}
-
 // The certificate that a search makes for a problem, with the digit of its version.
 fn searched<R: Abort + AllocGlobal>(rt: &R, problem: &str) -> Vec<u8> {
     let diagram = diagram_of(rt, field(problem, 1));
@@ -213,7 +205,7 @@ fn shown<R: Abort + AllocGlobal>(rt: &R, problem: &str, nodes: &str, bytes: &[u8
         failed: false,
     };
     let said = show_bytes(rt, asked.as_str(), bytes, &mut out);
-    let state = digest(out.bytes.as_slice());
+    let state = Digest::of(out.bytes.as_slice()).value();
     words(&format_args!("{said} {} {state:016x} {}", out.bytes.len(), out.count))
 }
 

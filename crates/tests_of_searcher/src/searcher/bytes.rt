@@ -2,22 +2,14 @@
 //! searcher goes over many nodes at once; what is wanted here was written by one that did not.
 
 use super::*;
-
-// The digest of bytes, FNV-1a with 64 bits.
-fn digest(bytes: &[u8]) -> u64 {
-    let mut state = 0xcbf2_9ce4_8422_2325u64;
-    for byte in bytes {
-        state = (state ^ u64::from(*byte)).wrapping_mul(0x0000_0100_0000_01b3);
-    }
-    state
-}
+use pg_trial::Digest;
 
 // How many games a search of so many nodes finds, or the fault; how many bytes it wrote until then; their digest.
 fn written<R: Abort + AllocGlobal>(rt: &R, goal: &Goal, nodes: u64) -> Said {
     let mut sink = ToWrite::new(Vec::new(rt.alloc()));
     let found = count_of(&searched(rt.alloc(), goal, nodes, &mut sink));
     let bytes = sink.into_inner();
-    let state = digest(bytes.as_slice());
+    let state = Digest::of(bytes.as_slice()).value();
     words(&format_args!("{} {} {state:016x}", found.as_str(), bytes.len()))
 }
 

@@ -1,6 +1,0 @@
-use Rattle.std.proofs.Common.{◌≡◌, false}
-use Rattle.searcher_by_nodes.proofs.walk.play_last_two.Given as goal
-
--- the node stays the same, and the writer has not refused
-abbrev pub invariant-loop : goal.invariant-loop
-invariant-loop g l = (l.top.moves.position ≡ l.position) × (l.output.writer.failed ≡ false)
