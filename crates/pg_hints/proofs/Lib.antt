@@ -1,5 +1,1 @@
-pub mod FenLemmas
-mod FieldLemmas
-mod LineLemmas
-mod MeantLemmas
 mod PlaceLemmas

@@ -1,7 +1,7 @@
 -- Where something stands in a list of games: a game by its line, a byte by its line and its place there.
-use Rattle.std.specs.Prelude.{◌≡◌, ℕ, ◌+◌, ◌<◌, List, [], ◌∷◌, ◌++◌, length, take, Option, Some, None, if◌then◌else◌}
+use Rattle.std.specs.Prelude.{◌≡◌, ℕ, ◌+◌, ◌-◌, ◌<◌, List, [], ◌∷◌, length, take, Option, Some, None, if◌then◌else◌}
 use Rattle.std.specs.Borrow.{Bor}
-use Rattle.std.specs.List.{slice_split, fold}
+use Rattle.std.specs.List.{slice_split, slice_get, fold}
 use Rattle.std.specs.Str.{IsValidUpTo}
 use Rattle.pg_position.specs.declared.moves.Move.{Move}
 use Rattle.pg_san.specs.GameText.{is_feed}
@@ -23,11 +23,8 @@ length_left None = 0
 length_left (Some text) = length text.now + 1
 
 -- the line with this number, counted from 1, is this text
-pub record IsLine (text : List ℕ) (number : ℕ) (line : List ℕ) : Type 0 where
-  pub before : List (List ℕ)
-  pub after : List (List ℕ)
-  pub is : pieces text ≡ before ++ line ∷ after
-  pub counts : number ≡ length before + 1
+abbrev pub IsLine : List ℕ → ℕ → List ℕ → Type 0
+IsLine text number line = (0 < number) × (slice_get (pieces text) (number - 1) ≡ Some line)
 
 -- read by itself, the line with this number is this game
 abbrev pub IsGameAt : List ℕ → ℕ → List Move → Type 0
@@ -41,10 +38,6 @@ pub record IsFirstAt (text : List ℕ) (number : ℕ) (game : List Move) : Type 
 -- one line is a game, and another is the first that is this game
 abbrev pub IsFirstLike : List ℕ → ℕ → ℕ → Type 0
 IsFirstLike text one first = (game : List Move) × IsGameAt text one game × IsFirstAt text first game
-
--- some line is a game
-abbrev pub HasGame : List ℕ → Type 0
-HasGame text = (number : ℕ) × (game : List Move) × IsGameAt text number game
 
 -- ---- bytes
 -- the place behind one more byte: a line feed ends a line

@@ -1,11 +1,7 @@
 //! Files that are packed.
-ghost use Rattle.std.specs.Prelude.{◌≡◌, MatchOption, Some, None};
-ghost use Rattle.pg_hints.specs.Files.{packing};
 
 /// The name of the packing that begins with these bytes, if they are those of a kind that is known.
-pub fn packing_of(bytes: &[u8; 6]) -> Option<&'static str>
-    ensures { MatchOption result (packing bytes.now ≡ None) (λ name. packing bytes.now ≡ Some name.now) }
-{
+pub fn packing_of(bytes: &[u8; 6]) -> Option<&'static str> {
     if bytes.starts_with(b"\xfd7zXZ\0") {
         Some("xz")
     } else if bytes.starts_with(b"\x1f\x8b") {

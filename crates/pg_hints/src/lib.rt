@@ -1,7 +1,7 @@
 //! What may help where a command has no answer: second lines for a terminal, which point to what is wrong. No answer
-//! depends on them. What is said of a search, of a packed file, of a FEN in several words, of a game that does not fit
-//! and of a length is a clause. Of a diagram the number of its fields, ranks and kings is one; what is said of a rank's
-//! width, of a letter and of a move is tested.
+//! depends on them. A clause says what would mislead if it were false: the line of a game, its plies and its end
+//! (`line_of`, `line_like`, `misfit_of`), the place of a byte that is no text (`bad_byte`), and what a man is called
+//! (`name_of`). That these find what is there, and all that the others say, is tested.
 #![tactic(auto)]
 
 mod diagrams;

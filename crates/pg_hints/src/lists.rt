@@ -1,6 +1,4 @@
 //! The word of a list that is no move, and what it is, or the legal moves that are most like it.
-ghost use Rattle.std.specs.Prelude.{◌≡◌, ℕ, List, []};
-ghost use Rattle.pg_hints.specs.Places.{IsLine};
 
 use crate::Hint;
 use crate::places::line_at;
@@ -149,9 +147,7 @@ fn write_word(alloc: Global, position: &Position, word: &str, hint: &mut Hint) -
 /// is known, as a result or a comment; else up to three legal moves whose texts are nearest to it. Of a word of more
 /// than 24 bytes, or of much that wants escapes, the front is shown with two points behind it. Nothing where there is
 /// no such word, or where memory is refused, which is taken from `alloc`.
-pub fn on_move(alloc: Global, list: &str, line: usize, ply: usize) -> Hint
-    ensures { ((text : List ℕ) → ¬ IsLine list.now line text) → result.bytes ≡ [] }
-{
+pub fn on_move(alloc: Global, list: &str, line: usize, ply: usize) -> Hint {
     let mut hint = Hint::new();
     let Some(text) = line_at(list, line) else {
         return hint;

@@ -1,15 +1,10 @@
 //! What is meant by a text that is no length.
-ghost use Rattle.std.specs.Prelude.{◌≡◌, ◌≤◌, ◌++◌, ◌↔◌, ℕ, Ok, Some, codes};
-ghost use Rattle.pg_fen.specs.Lengths.{length_of};
-ghost use Rattle.pg_hints.specs.Meant.{IsMeant, IsNumber};
 
 use crate::strangers::is_digits;
 use pg_fen::Length;
 
 // The length of so many moves with a dot behind them, and this behind the dot.
-fn with_dot(moves: &str, half: &str) -> Option<Length>
-    ensures { (n : ℕ) → (result ≡ Some n) ↔ (length_of (moves.now ++ codes "." ++ half.now) ≡ Ok n) }
-{
+fn with_dot(moves: &str, half: &str) -> Option<Length> {
     if !is_digits(moves) {
         return None;
     }
@@ -22,9 +17,7 @@ fn with_dot(moves: &str, half: &str) -> Option<Length>
 }
 
 // The length of so many plies; none of more than 128.
-fn of_plies(number: &str) -> Option<Length>
-    ensures { (n : ℕ) → (result ≡ Some n) ↔ IsNumber number.now n × (n ≤ 128) }
-{
+fn of_plies(number: &str) -> Option<Length> {
     match number.parse::<u8>() {
         Ok(plies) => Length::from_plies(plies),
         Err(_) => None,
@@ -33,9 +26,7 @@ fn of_plies(number: &str) -> Option<Length>
 
 /// The one length that is meant by a text that is none: a comma stands for the dot, as in `2,0`; the plies are counted,
 /// as in `8 plies`; or dots stand behind the moves, as in `4...`. None where no length is meant so.
-pub fn meant_by(text: &str) -> Option<Length>
-    ensures { (n : ℕ) → (result ≡ Some n) ↔ IsMeant text.now n }
-{
+pub fn meant_by(text: &str) -> Option<Length> {
     if let Some((moves, half)) = text.split_once(',') {
         return with_dot(moves, half);
     }

@@ -1,12 +1,8 @@
 //! A game of a list that is no solution: on which line it stands, how long it is, and where it ends.
-ghost use Rattle.std.specs.Prelude.{◌≤◌, IfOk, List, MatchOption, OnErr, length};
-ghost use Rattle.pg_position.specs.declared.moves.Move.{Move};
+ghost use Rattle.std.specs.Prelude.{IfOk, IfSome};
 ghost use Rattle.pg_position.specs.Array.{array_state};
 ghost use Rattle.pg_position.specs.Game.{IsGame};
-ghost use Rattle.pg_san.specs.Games.{IsFromArray};
-ghost use Rattle.pg_san.specs.Listing.{IsListing};
 ghost use Rattle.pg_hints.specs.Misfits.{IsMisfit};
-ghost use Rattle.pg_hints.specs.Places.{HasGame};
 
 use crate::places::{games_of, line_of};
 use pg_fen::Diagram;
@@ -21,16 +17,18 @@ pub struct Misfit {
     pub end: Diagram,
 }
 
-// The last position of a game from the initial array.
-fn end_of(game: &[Move]) -> Position
-    requires { IsFromArray game.now }
-    ensures { IsGame array_state game.now result }
+// The last position of a game from the initial array; none where a move is not legal.
+fn end_of(game: &[Move]) -> Option<Position>
+    ensures { IfSome result (λ last. IsGame array_state game.now last) }
 {
     let mut position = Position::array();
     for m in game {
-        position = position.after(m);
+        let Ok(next) = position.play(*m) else {
+            return None;
+        };
+        position = next;
     }
-    position
+    Some(position)
 }
 
 /// The game of a list with this index, counted from 0 in canonical order; none where the list is refused or has no more
@@ -39,24 +37,22 @@ fn end_of(game: &[Move]) -> Position
 /// # Errors
 /// Memory is refused, which is taken from `alloc`, for a line that is a game.
 pub fn misfit_of(alloc: Global, list: &str, at: usize) -> Result<Option<Misfit>, AllocError>
-    ensures ok { IfOk result (λ found. MatchOption found
-        ((games : List (List Move)) → IsListing list.now games → length games ≤ at)
-        (λ found. IsMisfit list.now at found)) }
-    ensures err { OnErr result (HasGame list.now) }
+    ensures { IfOk result (λ found. IfSome found (λ found. IsMisfit list.now at found)) }
 {
     let Some(games) = games_of(alloc, list)? else {
         return Ok(None);
     };
-    // A fact for the proof: its games are games from the initial array.
-    games.len();
     let Some(game) = games.game(at) else {
+        return Ok(None);
+    };
+    let Some(last) = end_of(game) else {
         return Ok(None);
     };
     match line_of(alloc, list, game)? {
         Some(line) => Ok(Some(Misfit {
             line,
             plies: game.len(),
-            end: Diagram::of(&end_of(game)),
+            end: Diagram::of(&last),
         })),
         None => Ok(None),
     }

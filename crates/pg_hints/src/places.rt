@@ -1,12 +1,11 @@
 //! Where something stands in a list: a game by its line, a byte that is no text by its line and its place there.
-ghost use Rattle.std.specs.Prelude.{◌≡◌, ◌≤◌, ◌<◌, ◌+◌, ◌^◌, ◌∷◌, ◌↔◌, ℕ, List, [], length};
-ghost use Rattle.std.specs.Prelude.{IfOk, IsTrue, MatchOption, OnErr};
+ghost use Rattle.std.specs.Prelude.{◌≡◌, ◌≤◌, ◌<◌, ◌+◌, ◌^◌, ◌∷◌, ◌↔◌, List, [], length};
+ghost use Rattle.std.specs.Prelude.{IfOk, IfSome, IsTrue, MatchOption};
 ghost use Rattle.std.specs.Str.{IsUtf8};
 ghost use Rattle.pg_position.specs.declared.moves.Move.{Move};
-ghost use Rattle.pg_san.specs.Listing.{IsListing, IsTextFault};
-ghost use Rattle.pg_san.specs.declared.listing_fault.GamesFault.{GamesFault};
-ghost use Rattle.pg_hints.specs.Places.{HasGame, IsBadAt, IsFirstAt, IsFirstLike, IsGameAt, IsLine};
-ghost use Rattle.pg_hints.specs.Places.{length_left, next_place, pieces, pieces_left, place_behind};
+ghost use Rattle.pg_san.specs.Listing.{IsListing};
+ghost use Rattle.pg_hints.specs.Places.{IsBadAt, IsFirstAt, IsFirstLike, IsLine, next_place, pieces, place_behind};
+ghost use Rattle.pg_hints.specs.Places.{length_left, pieces_left};
 
 use pg_position::Move;
 use pg_san::{Games, GamesFault, read_games};
@@ -33,29 +32,16 @@ fn first_line(text: &str) -> (&str, Option<&str>)
 
 // The line with this number, counted from 1; none where there is none.
 pub(crate) fn line_at(text: &str, number: usize) -> Option<&str>
-    ensures { MatchOption result
-        ((line : List ℕ) → ¬ IsLine text.now number line)
-        (λ line. IsLine text.now number line.now) }
+    ensures { IfSome result (λ line. IsLine text.now number line.now) }
 {
-    let mut at = 0usize;
-    let mut rest = Some(text);
-    while let Some(left) = rest {
-        let (line, more) = first_line(left);
-        at += 1;
-        if at == number {
-            return Some(line);
-        }
-        rest = more;
-    }
-    None
+    text.split('\n').nth(number.checked_sub(1)?)
 }
 
-// The games of a text; none where it lists none. Memory is refused only for a line that is a game.
+// The games of a text; none where it lists none.
 pub(crate) fn games_of(alloc: Global, text: &str) -> Result<Option<Games>, AllocError>
-    ensures ok { IfOk result (λ found. MatchOption found
+    ensures { IfOk result (λ found. MatchOption found
         ((games : List (List Move)) → ¬ IsListing text.now games)
         (λ games. IsListing text.now games)) }
-    ensures err { OnErr result (HasGame text.now) }
 {
     match read_games(alloc, text) {
         Ok(games) => Ok(Some(games)),
@@ -66,18 +52,29 @@ pub(crate) fn games_of(alloc: Global, text: &str) -> Result<Option<Games>, Alloc
     }
 }
 
-// Whether a line that is read by itself is this game.
-fn is_game(alloc: Global, line: &str, game: &[Move]) -> Result<bool, AllocError>
-    ensures ok { IfOk result (λ is. IsTrue is ↔ IsListing line.now (game.now ∷ [])) }
-    ensures err { OnErr result (HasGame line.now) }
+// The games of a line that is one game by itself; none where it is not.
+fn game_of(alloc: Global, line: &str) -> Result<Option<Games>, AllocError>
+    ensures { IfOk result (λ found. MatchOption found
+        ((game : List Move) → ¬ IsListing line.now (game ∷ []))
+        (λ games. IsListing line.now games × (length games ≡ 1))) }
 {
     let Some(games) = games_of(alloc, line)? else {
-        return Ok(false);
+        return Ok(None);
     };
     if games.len() != 1 {
-        return Ok(false);
+        return Ok(None);
     }
-    Ok(games.contains(game))
+    Ok(Some(games))
+}
+
+// Whether a line that is read by itself is this game.
+fn is_game(alloc: Global, line: &str, game: &[Move]) -> Result<bool, AllocError>
+    ensures { IfOk result (λ is. IsTrue is ↔ IsListing line.now (game.now ∷ [])) }
+{
+    match game_of(alloc, line)? {
+        Some(games) => Ok(games.contains(game)),
+        None => Ok(false),
+    }
 }
 
 /// The number, from 1, of the first line of a list that is this game; none where no line is.
@@ -85,10 +82,7 @@ fn is_game(alloc: Global, line: &str, game: &[Move]) -> Result<bool, AllocError>
 /// # Errors
 /// Memory is refused, which is taken from `alloc`, for a line that is a game.
 pub fn line_of(alloc: Global, list: &str, game: &[Move]) -> Result<Option<usize>, AllocError>
-    ensures ok { IfOk result (λ found. MatchOption found
-        ((n : ℕ) → ¬ IsGameAt list.now n game.now)
-        (λ line. IsFirstAt list.now line game.now)) }
-    ensures err { OnErr result (HasGame list.now) }
+    ensures { IfOk result (λ found. IfSome found (λ line. IsFirstAt list.now line game.now)) }
 {
     let mut number = 0usize;
     let mut rest = Some(list);
@@ -109,24 +103,18 @@ pub fn line_of(alloc: Global, list: &str, game: &[Move]) -> Result<Option<usize>
 /// # Errors
 /// Memory is refused, which is taken from `alloc`, for a line that is a game.
 pub fn line_like(alloc: Global, list: &str, line: usize) -> Result<Option<usize>, AllocError>
-    ensures ok { IfOk result (λ found. MatchOption found
-        ((game : List Move) → ¬ IsGameAt list.now line game)
-        (λ first. IsFirstLike list.now line first)) }
-    ensures err { OnErr result (HasGame list.now) }
+    ensures { IfOk result (λ found. IfSome found (λ first. IsFirstLike list.now line first)) }
 {
     let Some(text) = line_at(list, line) else {
         return Ok(None);
     };
-    let Some(games) = games_of(alloc, text)? else {
+    let Some(games) = game_of(alloc, text)? else {
         return Ok(None);
     };
-    if games.len() != 1 {
-        return Ok(None);
+    match games.game(0) {
+        Some(game) => line_of(alloc, list, game),
+        None => Ok(None),
     }
-    let Some(game) = games.game(0) else {
-        return Ok(None);
-    };
-    line_of(alloc, list, game)
 }
 
 // The place behind one more byte. Lines and bytes are counted from 0.

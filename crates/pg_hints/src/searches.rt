@@ -1,76 +1,46 @@
 //! What a search that has no answer came to.
-ghost use Rattle.std.specs.Prelude.{◌≡◌, ◌≤◌, ◌+◌, ◌++◌, length, decimal};
-ghost use Rattle.pg_hints.specs.Searches.{moves_text, known_text, length_hint, limit_text};
 
 use crate::Hint;
+use arrayvec::ArrayString;
 use pg_fen::Length;
-use pg_fen::text::digits;
+use std::fmt::Write;
 
-// Appends so many plies as a length in moves.
-fn push_moves(plies: u8, hint: &mut Hint)
-    requires room { length hint.old.bytes ≤ 116 }
-    ensures text { hint.new.bytes ≡ hint.old.bytes ++ moves_text plies }
-    ensures short { length hint.new.bytes ≤ length hint.old.bytes + 4 }
-{
-    if let Some(moves) = Length::from_plies(plies) {
-        let text = moves.write();
-        // A fact for the proof: it has at most four characters.
-        text.len();
-        hint.push_str(text.as_str());
+// So many plies as a length in moves; nothing beyond the longest length.
+fn moves_of(plies: u8) -> ArrayString<4> {
+    match Length::from_plies(plies) {
+        Some(length) => length.write(),
+        None => ArrayString::new(),
     }
-}
-
-// A number as a text that a hint begins with.
-fn beginning_with(number: u64) -> Hint
-    ensures text { result.bytes ≡ decimal number }
-    ensures short { length result.bytes ≤ 20 }
-{
-    let digits = digits(number as usize);
-    // A fact for the proof: they are at most twenty.
-    digits.len();
-    let mut hint = Hint::new();
-    hint.push_str(digits.as_str());
-    hint
 }
 
 /// How far a search came that met its limit: the nodes, and the length of the tree at work of the stated one.
-pub fn on_limit(nodes: u64, tree: u8, plies: u8) -> Hint
-    ensures { result.bytes ≡ limit_text nodes tree plies }
-{
-    let mut hint = beginning_with(nodes);
-    if nodes == 1 {
-        hint.push_str(" node, tree ");
-    } else {
-        hint.push_str(" nodes, tree ");
-    }
-    push_moves(tree, &mut hint);
-    hint.push_str(" of ");
-    push_moves(plies, &mut hint);
+pub fn on_limit(nodes: u64, tree: u8, plies: u8) -> Hint {
+    let mut hint = Hint::new();
+    let (tree, whole) = (moves_of(tree), moves_of(plies));
+    let word = if nodes == 1 { "node" } else { "nodes" };
+    let _ = write!(
+        hint,
+        "{nodes} {word}, tree {} of {}",
+        tree.as_str(),
+        whole.as_str()
+    );
     hint
 }
 
 /// What the games show that a search met.
-pub fn on_known(games: usize) -> Hint
-    ensures { result.bytes ≡ known_text games }
-{
+pub fn on_known(games: usize) -> Hint {
     let mut hint = Hint::new();
-    match games {
-        0 => hint.push_str("no game known"),
-        1 => hint.push_str("1 game known"),
-        _ => {
-            hint = beginning_with(games as u64);
-            hint.push_str(" games known: not sound");
-        }
-    }
+    let _ = match games {
+        0 => write!(hint, "no game known"),
+        1 => write!(hint, "1 game known"),
+        _ => write!(hint, "{games} games known: not sound"),
+    };
     hint
 }
 
 /// The length to ask for, where a game of so many plies was met.
-pub fn on_length(plies: u8) -> Hint
-    ensures { result.bytes ≡ length_hint plies }
-{
+pub fn on_length(plies: u8) -> Hint {
     let mut hint = Hint::new();
-    hint.push_str("try the length ");
-    push_moves(plies, &mut hint);
+    let _ = write!(hint, "try the length {}", moves_of(plies).as_str());
     hint
 }

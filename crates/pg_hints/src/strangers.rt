@@ -1,7 +1,4 @@
 //! Words that stand beside moves elsewhere, and are none here.
-ghost use Rattle.std.specs.Prelude.{◌≡◌};
-ghost use Rattle.std.specs.Char.{is_ascii_digit};
-ghost use Rattle.std.specs.List.{list_all};
 
 // What moves begin with that name a man, and castling.
 const LETTERS: &str = "KQRBNSO";
@@ -12,9 +9,7 @@ fn is_result(word: &str) -> bool {
 }
 
 // Whether a word is digits alone.
-pub(crate) fn is_digits(word: &str) -> bool
-    ensures { result ≡ list_all is_ascii_digit word.now }
-{
+pub(crate) fn is_digits(word: &str) -> bool {
     word.as_bytes().iter().all(|byte| byte.is_ascii_digit())
 }
 

@@ -1,6 +1,7 @@
 //! What is said on a terminal behind a refusal.
 
-use pg_fen::Diagram;
+use crate::shared::{byte, number, size, word};
+use pg_fen::{Diagram, read_position};
 use pg_hints::{is_fen_in_words, on_diagram, on_known, on_length, on_limit, on_move, packing_of};
 use std::process::Abort;
 
@@ -16,7 +17,19 @@ rnbqkbnr/pppppppp/8/3é4/8/8/PPPPPPPP/RNBQKBNR => 'é' in rank 5; men are KQRBNP
 rnbqkbnr/pppppppp/8/8/8/8/PPPPPPPP/RNBQKBN\u{10ffff} => '\\u{10ffff}' in rank 1; men are KQRBNP and kqrbnp
 rnbqqbnr/pppppppp/8/8/8/8/PPPPPPPP/RNBQKBKR => white has 2, black 0
 8/8/8/8/8/8/8/8 w - - => fields: 4; a diagram has 1, a FEN 6
-4k3/8/8/8/8/8/8/4K3 x - - 0 1 => ";
+4k3/8/8/8/8/8/8/4K3 x - - 0 1 => 
+ => fields: 0; a diagram has 1, a FEN 6
+8/8/8/8/8/8/8/8 w => fields: 2; a diagram has 1, a FEN 6
+ 8/8/8/8/8/8/8/8  w\t-\r-  0 => fields: 5; a diagram has 1, a FEN 6
+8/8/8/8/8/8/8/8 w - - 0 1 2 => fields: 7; a diagram has 1, a FEN 6
+8/8/8/8/8/8/8/8\u{c}w - => fields: 2; a diagram has 1, a FEN 6
+8/8/8/8/8/8/8 => 7 ranks; a board has 8
+ 8/8/8/8/8/8/8/8/8 => 9 ranks; a board has 8
+8/8/8 w - - 0 1/1/1/1/1/1 => 3 ranks; a board has 8
+8/8/8/8/8/8/8/8 => white has 0, black 0
+k6k/8/8/8/8/8/8/7K => white has 1, black 2
+8/8/8/8/8/8/8/k7 w KQkq - 0 1 => white has 0, black 1
+k6P/8/8/8/8/8/8/7K => ";
 
 // What is said of a text that is refused as a diagram.
 fn check_diagram(rt: &impl Abort, row: &str) {
@@ -24,13 +37,43 @@ fn check_diagram(rt: &impl Abort, row: &str) {
     let Err(fault) = Diagram::read(text) else {
         panic!(rt; "{row}");
     };
-    assert_eq!(rt; on_diagram(text, fault).as_str(), wanted);
+    assert_eq!(rt; on_diagram(text, fault).as_str(), wanted, "{row}");
 }
 
 #[test]
 fn hints_on_diagrams(rt: HostRuntime) {
     for row in DIAGRAMS.lines() {
         check_diagram(&rt, row);
+    }
+}
+
+// A text that is no position, and what is wrong with it: nothing where its fault says all.
+const POSITIONS: &str = "4k3/8/8/8/8/8/8/4K3 => fields: 1; a diagram has 1, a FEN 6
+8/8 w - - 0 1 => 2 ranks; a board has 8
+4k3/8/8/9/8/8/8/4K3 w - - 0 1 => rank 5 is 1 square wide, not 8
+4k3/8/8/8/8/8/8/4KX2 w - - 0 1 => 'X' in rank 1; men are KQRBNP and kqrbnp
+4k3/8/8/8/8/8/8/8 w - - 0 1 => white has 0, black 1
+4k2p/8/8/8/8/8/8/4K3 w - - 0 1 => 
+4k3/8/8/8/8/8/8/4K3 x - - 0 1 => 
+4k3/8/8/8/8/8/8/4K3 w KK - 0 1 => 
+4k3/8/8/8/8/8/8/4K3 w - e4 0 1 => 
+4k3/8/8/8/8/8/8/4K3 w - - x 1 => 
+4k3/8/8/8/8/8/8/4K3 w K - 0 1 => 
+4k3/8/8/8/8/8/8/4R1K1 w - - 0 1 => ";
+
+// What is said of a text that is refused as a position.
+fn check_position(rt: &impl Abort, row: &str) {
+    let (text, wanted) = row.split_once(" => ").expect(rt, row);
+    let Err(fault) = read_position(text) else {
+        panic!(rt; "{row}");
+    };
+    assert_eq!(rt; on_diagram(text, fault).as_str(), wanted, "{row}");
+}
+
+#[test]
+fn hints_on_positions(rt: HostRuntime) {
+    for row in POSITIONS.lines() {
+        check_position(&rt, row);
     }
 }
 
@@ -65,7 +108,12 @@ the word is \"\\u{1}\\u{1}\\u{1}\\u{1}\\u{1}\\u{1}\\u{1}\\u{1}\\u{1}\\u{1}\"; le
 the word is \"\\u{1}\\u{1}\\u{1}\\u{1}\\u{1}\\u{1}\\u{1}\\u{1}\\u{1}\\u{1}\"..; legal there: Na3, Nc3, Nf3
 h4 g5 hxg5 a6 g6 b6 gxh7 c6 \u{e000}\u{e000}\u{e000}\u{e000}\u{e000}\u{e000}\u{e000}\u{e000} | 1 | 9 => \
 the word is \"\\u{e000}\\u{e000}\\u{e000}\\u{e000}\\u{e000}\\u{e000}\"..; legal there: Na3, Nc3, Nf3
+1. e4/1. x e5/1. d4 | 2 | 1 => the word is \"x\"; legal there: a3, a4, b3
+x/1. e4/1. d4 | 1 | 1 => the word is \"x\"; legal there: a3, a4, b3
 e4 | 2 | 1 => 
+e4 | 0 | 1 => 
+ | 1 | 1 => 
+e4 | 1 | 0 => 
 e4 | 1 | 2 => 
 x e4 | 1 | 2 => ";
 
@@ -81,7 +129,7 @@ fn check_move<R: Abort + AllocGlobal>(rt: &R, row: &str) {
     let line = fields.next().unwrap_or("").parse().expect(rt, row);
     let ply = fields.next().unwrap_or("").parse().expect(rt, row);
     let said = on_move(rt.alloc(), list.as_str(), line, ply);
-    assert_eq!(rt; said.as_str(), wanted);
+    assert_eq!(rt; said.as_str(), wanted, "{row}");
 }
 
 #[test]
@@ -108,6 +156,44 @@ fn hints_on_searches(rt: HostRuntime) {
     assert_eq!(rt; on_length(5).as_str(), "try the length 2.5");
 }
 
+// Numbers with a word for what they are of, and what is said of such a search: `limit` has nodes, the tree at work and
+// the plies, of which more than 128 are no length.
+const SEARCHES: &str = "limit 0 4 5 => 0 nodes, tree 2.0 of 2.5
+limit 2 5 4 => 2 nodes, tree 2.5 of 2.0
+limit 7 0 0 => 7 nodes, tree 0.0 of 0.0
+limit 3 128 129 => 3 nodes, tree 64.0 of 
+limit 3 129 128 => 3 nodes, tree  of 64.0
+limit 1 255 255 => 1 node, tree  of 
+known 2 0 0 => 2 games known: not sound
+known 18446744073709551615 0 0 => 18446744073709551615 games known: not sound
+length 0 0 0 => try the length 0.0
+length 1 0 0 => try the length 0.5
+length 8 0 0 => try the length 4.0
+length 128 0 0 => try the length 64.0
+length 129 0 0 => try the length ";
+
+// What is said of a search.
+fn check_search(rt: &impl Abort, row: &str) {
+    let (asked, wanted) = row.split_once(" => ").expect(rt, row);
+    let first = word(asked, 1);
+    let said = match word(asked, 0) {
+        "limit" => {
+            let (tree, plies) = (word(asked, 2), word(asked, 3));
+            on_limit(number(rt, first), byte(rt, tree), byte(rt, plies))
+        }
+        "known" => on_known(size(rt, first)),
+        _ => on_length(byte(rt, first)),
+    };
+    assert_eq!(rt; said.as_str(), wanted, "{row}");
+}
+
+#[test]
+fn hints_on_searches_of_all_kinds(rt: HostRuntime) {
+    for row in SEARCHES.lines() {
+        check_search(&rt, row);
+    }
+}
+
 // A file that begins so is packed by this program, or by none.
 fn check_packing(rt: &impl Abort, bytes: &[u8; 6], wanted: &str) {
     assert_eq!(rt; packing_of(bytes).unwrap_or("none"), wanted);
@@ -121,6 +207,12 @@ fn packed_files(rt: HostRuntime) {
     check_packing(&rt, b"BZh91A", "bzip2");
     check_packing(&rt, b"PK\x03\x04\0\0", "zip");
     check_packing(&rt, b"PGC2\x08$", "none");
+    check_packing(&rt, b"\xfd7zXZ\x01", "none");
+    check_packing(&rt, b"\x1f\x8c\x08\0\0\0", "none");
+    check_packing(&rt, b"\x28\xb5\x2f\xfc\0\0", "none");
+    check_packing(&rt, b"BZg91A", "none");
+    check_packing(&rt, b"PK\x05\x06\0\0", "none");
+    check_packing(&rt, b"\0\x1f\x8b\x08\0\0", "none");
 }
 
 // Whether words that spaces part have a FEN in pieces.
@@ -139,4 +231,35 @@ fn fens_that_are_not_quoted(rt: HostRuntime) {
     assert!(rt; is_in_words(&rt, "pg count 8/8/8/8/8/8/8/8 b - - 0 1 4"));
     assert!(rt; !is_in_words(&rt, "pg check 8/8/8/8/8/8/8/8 4.0 w"));
     assert!(rt; !is_in_words(&rt, "pg check w 8/8/8/8/8/8/8/8"));
+}
+
+// Words of a command line, and whether a FEN stands in several of them.
+const WORDS: &str = "8/8/8/8/8/8/8/8 w => yes
+8/8/8/8/8/8/8/8 b => yes
+///////  w => no
+/////// w => yes
+pg moves 8/8 8/8/8/8/8/8/8/8 w => yes
+w 8/8/8/8/8/8/8/8 b => yes
+8/8/8/8/8/8/8/8 => no
+w => no
+ => no
+8/8/8/8/8/8/8 w => no
+8/8/8/8/8/8/8/8/8 w => no
+8/8/8/8/8/8/8/8 x => no
+8/8/8/8/8/8/8/8 W => no
+8/8/8/8/8/8/8/8 wb => no
+b 8/8/8/8/8/8/8/8 => no
+8/8/8/8/8/8/8/8 - w => no";
+
+fn check_words<R: Abort + AllocGlobal>(rt: &R, row: &str) {
+    let (words, wanted) = row.split_once(" => ").expect(rt, row);
+    assert_eq!(rt; is_in_words(rt, words), wanted == "yes", "{row}");
+}
+
+#[test]
+fn fens_among_words(rt: HostRuntime) {
+    for row in WORDS.lines() {
+        check_words(&rt, row);
+    }
+    assert!(rt; !is_fen_in_words(&[]));
 }

@@ -70,6 +70,112 @@ fn games_that_are_repeated(rt: HostRuntime) {
     }
 }
 
+// A text as a list, of which slashes part the lines.
+fn list_of<R: Abort + AllocGlobal>(rt: &R, text: &str) -> String {
+    text.replace(rt.alloc(), "/", "\n").expect(rt, text)
+}
+
+// A list, a game, and the first line of the list that is this game, or 0. A move number alone is the game of no move.
+const FIRST: &str = " | e4 => 0
+e4 | e4 => 1
+//e4 | e4 => 3
+d4/e4/e4 | e4 => 2
+d4\r/e4\r | e4 => 2
+d4/  1.e2-e4 | e4 => 2
+d4/e4 e5 | e4 => 0
+d4/e4 | e4 e5 => 0
+e4/e4 e5/e4 e5 | e4 e5 => 2
+x/e4 x/e4 | e4 => 3
+x | e4 => 0
+-/e4 | e4 => 2
+e4/- | - => 2
+e4/1. | - => 2
+e4/ | - => 0";
+
+// The first line of a list that is a game.
+fn check_first<R: Abort + AllocGlobal>(rt: &R, row: &str) {
+    let (asked, wanted) = row.split_once(" => ").expect(rt, row);
+    let (list, game) = asked.split_once(" | ").expect(rt, row);
+    let list = list_of(rt, list);
+    let games = read_games(rt.alloc(), game).expect(rt, row);
+    let game = games.game(0).expect(rt, row);
+    let found = line_of(rt.alloc(), list.as_str(), game).expect(rt, row);
+    assert_eq!(rt; found.unwrap_or(0), size(rt, wanted), "{row}");
+}
+
+#[test]
+fn first_lines_of_games(rt: HostRuntime) {
+    for row in FIRST.lines() {
+        check_first(&rt, row);
+    }
+}
+
+// A list, one of its lines, and the first that is the same game, or 0.
+const ALIKE: &str = "e4/e4 | 2 => 1
+e4/e4 | 1 => 1
+e4/d4/e4 | 3 => 1
+e4/d4/e4 | 2 => 2
+x/e4/e2-e4 | 3 => 2
+-/e4/1. | 3 => 1
+e4/x | 2 => 0
+e4/e4 x | 2 => 0
+e4/ | 2 => 0
+e4 | 2 => 0
+e4 | 0 => 0
+ | 1 => 0";
+
+// The first line of a list that is the game of a line.
+fn check_alike<R: Abort + AllocGlobal>(rt: &R, row: &str) {
+    let (asked, wanted) = row.split_once(" => ").expect(rt, row);
+    let (list, line) = asked.split_once(" | ").expect(rt, row);
+    let list = list_of(rt, list);
+    let found = line_like(rt.alloc(), list.as_str(), size(rt, line)).expect(rt, row);
+    assert_eq!(rt; found.unwrap_or(0), size(rt, wanted), "{row}");
+}
+
+#[test]
+fn first_lines_of_other_lines(rt: HostRuntime) {
+    for row in ALIKE.lines() {
+        check_alike(&rt, row);
+    }
+}
+
+// A list, an index in canonical order, and the line and the plies of that game, or 0 twice.
+const MISFITS: &str = "e4 | 0 => 1 1
+e4 | 1 => 0 0
+e4/d4 d5 | 0 => 2 2
+e4/d4 d5 | 1 => 1 1
+e4/d4 d5 | 2 => 0 0
+/e4 | 0 => 2 1
+- | 0 => 1 0
+1. | 0 => 1 0
+ | 0 => 0 0
+x | 0 => 0 0
+e4/x | 0 => 0 0
+e4/e4 | 0 => 0 0
+e4 | 18446744073709551615 => 0 0";
+
+// A game of a list by its index.
+fn check_misfit<R: Abort + AllocGlobal>(rt: &R, row: &str) {
+    let (asked, wanted) = row.split_once(" => ").expect(rt, row);
+    let (list, at) = asked.split_once(" | ").expect(rt, row);
+    let list = list_of(rt, list);
+    let found = misfit_of(rt.alloc(), list.as_str(), size(rt, at)).expect(rt, row);
+    let (line, plies) = match found {
+        Some(game) => (game.line, game.plies),
+        None => (0, 0),
+    };
+    assert_eq!(rt; line, size(rt, word(wanted, 0)), "{row}");
+    assert_eq!(rt; plies, size(rt, word(wanted, 1)), "{row}");
+}
+
+#[test]
+fn games_by_their_index(rt: HostRuntime) {
+    for row in MISFITS.lines() {
+        check_misfit(&rt, row);
+    }
+}
+
 // The first byte that is no text stands in this line, as so many of it; both are 0 where all is text.
 fn check_bytes(rt: &impl Abort, bytes: &[u8], line: usize, byte: usize) {
     let none = Place { line: 0, byte: 0 };
@@ -103,7 +209,35 @@ plies =>
 64,0 => 64.0
 64,5 => 
 2.0,0 => 
-2. => ";
+2. => 
+0,0 => 0.0
+0,5 => 0.5
+2,1 => 
+2,00 => 
+2, => 
+2,50 => 
++2,0 => 
+2;0 => 
+1,2,0 => 
+1,5 plies => 
+0 plies => 0.0
+5 plies => 2.5
+128 plies => 64.0
+-1 plies => 
+256 plies => 
+8  plies => 
+8 plies  => 
+8plies => 
+8.0 plies => 
+eight plies => 
+0... => 0.0
+64... => 64.0
+64.5... => 
+65... => 
+... => 
+4.... => 
+4.0... => 4.0
++4... => ";
 
 #[test]
 fn lengths_that_are_meant(rt: HostRuntime) {

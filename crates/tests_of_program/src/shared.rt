@@ -27,6 +27,11 @@ pub(crate) fn size(rt: &impl Abort, text: &str) -> usize {
     text.parse().expect(rt, text)
 }
 
+// The same, as a byte.
+pub(crate) fn byte(rt: &impl Abort, text: &str) -> u8 {
+    text.parse().expect(rt, text)
+}
+
 // What an obstacle says.
 pub(crate) fn to_text<R: Abort + AllocGlobal>(rt: &R, obstacle: Obstacle) -> String {
     let Ok(text) = obstacle.to_string(rt.alloc()) else {
