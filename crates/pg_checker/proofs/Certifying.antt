@@ -36,7 +36,7 @@ use Rattle.pg_checker.specs.inner.Halting.{full}
 use Rattle.pg_checker.specs.inner.Steps.{FailsRead, TakesFew}
 use Rattle.pg_checker.proofs.Goings.{stops_as, stops_with}
 use Rattle.pg_checker.proofs.Planting.{runs_all}
-use Rattle.pg_checker.specs.inner.Checking.{AreKnown}
+use Rattle.pg_checker.specs.inner.Checking.{AreKnown, Answers}
 
 -- ---- the header
 -- with nothing held, what is to come is what is left
@@ -188,6 +188,13 @@ module _ (d : Placement) (l : ℕ) (listed : List Move → Bool) (cut : Cuts) wh
       go (Some bytes) (Some ys) reading.Magic h r = never ys reading.Magic r
       go (Some bytes) (Some ys) reading.Trailing h r = never ys reading.Trailing r
       go (Some bytes) (Some ys) (reading.UnknownRecord b) h r = never ys (reading.UnknownRecord b) r
+
+-- so it is of a machine that begins with this reader and within these limits
+pub answers_by : (r : Rules State Move) (new reader : ReaderState) (left : Option (List ℕ)) (records a room b : ℕ) (result : Result Proved Stop)
+    → new ≡ reader → records ≡ a → room ≡ b → Answers r (to_come new left) records room result → Answers r (to_come reader left) a b result
+answers_by r new reader left records a room b result e f g h =
+    subst (λ (x : ReaderState). Answers r (to_come x left) a b result) e
+    (subst (λ (n : ℕ). Answers r (to_come new left) n b result) f (subst (λ (n : ℕ). Answers r (to_come new left) records n result) g h))
 
 -- nothing is left in the source
 pub end_left : (reader : ReaderState) (left : Option (List ℕ)) → IsAtEnd (to_come reader left) → IsAtEnd left

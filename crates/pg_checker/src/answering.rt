@@ -1,27 +1,30 @@
 //! The games that a certificate proves.
-ghost use Rattle.std.specs.Prelude.{◌≡◌, ◌+◌, ◌*◌, false, None, IfOk, IfErr, OnOk};
+ghost use Rattle.std.specs.Prelude.{◌≡◌, ◌+◌, ◌*◌, ℕ, List, Option, false, None, IfOk, IfErr, OnOk};
 ghost use Rattle.std.specs.Io.KnownBytes.{IsAtEnd};
+ghost use Rattle.pg_certificate.specs.Reader.{to_come};
 ghost use Rattle.pg_certificate.specs.Spelling.{header_length, longest_record};
 ghost use Rattle.pg_san.specs.Games.{IsGames};
 ghost use Rattle.pg_checker.specs.Answer.{IsExactAnswer};
 ghost use Rattle.pg_checker.specs.Answering.{AnswerAccepts, AnswerRefuses, AnswerTakes, AnswerTells};
 ghost use Rattle.pg_checker.specs.Cuts.{any_rules_by, rules_by};
+ghost use Rattle.pg_checker.specs.Opening.{behind, bytes_of};
 ghost use Rattle.pg_checker.specs.Terms.{terms};
+ghost use Rattle.pg_checker.specs.inner.Checking.{Headed};
+ghost use Rattle.pg_checker.specs.inner.Machine.{IsReading};
 ghost use Rattle.pg_checker.specs.inner.Finds.{IsLossFault};
 
 use crate::certify::{Answer, Proved, read_header, rows_for, walk};
 use crate::fault::AnswerFault;
 use crate::finds::{Finds, Loss};
 use crate::halt::fault_of;
-use crate::machine::{Input, Machine, Names, Question, Stack};
-use crate::table::Table;
+use crate::machine::{Machine, Question};
+use crate::opening::Opened;
+use crate::problem::Problem;
 use crate::watch::CheckWatch;
-use arrayvec::ArrayVec;
 use pg_captures::Bound;
 use pg_certificate::{RecordReader, Source};
 use pg_fen::{Diagram, Length};
 use pg_moves::Unwatched;
-use pg_travel::Prices;
 use std::alloc::Global;
 
 // What was found, where each game was kept.
@@ -118,35 +121,113 @@ pub fn answer_watched<'a, R: Source, W: CheckWatch>(
     ensures runs { OnOk result (R.has_failed source.new ≡ false) }
     ensures tells { AnswerTells diagram.now length result }
 {
-    let plies = length.plies();
-    let mut machine = Machine {
-        input: Input {
-            reader: RecordReader::new(),
-            prices: Prices::new(&[], &[]).unwrap(),
-            records: max_records,
-        },
-        names: Names {
-            table: Table::new(alloc),
-            left: max_named,
-        },
-        stack: Stack {
-            frames: ArrayVec::new(),
-            fertile: false,
-        },
-        finds: Finds::new(alloc),
-    };
-    let version = match read_header(diagram, plies, &mut machine.input.reader, source) {
+    let mut reader = RecordReader::new();
+    let version = match read_header(diagram, length.plies(), &mut reader, source) {
         Ok(version) => version,
         Err(fault) => return Err(AnswerFault::Check(fault)),
     };
+    let problem = Problem {
+        diagram: *diagram,
+        length,
+    };
+    answer_headed(
+        alloc,
+        &problem,
+        version,
+        reader,
+        bounds,
+        source,
+        watch,
+        max_records,
+        max_named,
+    )
+}
+
+/// As `answer_watched`, of a certificate that was opened, for the problem that its header names. `source` is the one
+/// that it was opened from, as that call left it: the bytes of the certificate are `bytes_of` what was opened and what
+/// is left there.
+///
+/// # Errors
+/// As for `answer`, but for those at the header.
+pub fn answer_opened<R: Source, W: CheckWatch>(
+    alloc: Global,
+    opened: Opened,
+    bounds: &[Box<dyn Bound>],
+    source: &mut R,
+    watch: &mut W,
+    max_records: u64,
+    max_named: u32,
+) -> Result<Answer, AnswerFault>
+    ensures headline { IfOk result (λ a. IsExactAnswer opened.diagram opened.plies a.games) }
+    ensures order { IfOk result (λ a. IsGames a.games) }
+    ensures accepted { AnswerAccepts
+        (terms (rules_by code_of excluded bounds.now) max_records max_named (bytes_of opened (R.left source.old)))
+        opened.diagram opened.plies result }
+    ensures refused { AnswerRefuses
+        (terms (any_rules_by code_of excluded bounds.now) max_records max_named (bytes_of opened (R.left source.old)))
+        opened.diagram opened.plies (R.has_failed source.new) result }
+    ensures pulls { AnswerTakes (longest_record * max_records + 4096)
+        (behind opened (R.left source.old)) (R.left source.new) result }
+    ensures end { OnOk result (IsAtEnd (R.left source.new)) }
+    ensures runs { OnOk result (R.has_failed source.new ≡ false) }
+    ensures tells { AnswerTells opened.diagram opened.plies result }
+{
+    let Opened {
+        problem,
+        version,
+        reader,
+    } = opened;
+    answer_headed(
+        alloc,
+        &problem,
+        version,
+        reader,
+        bounds,
+        source,
+        watch,
+        max_records,
+        max_named,
+    )
+}
+
+// What a certificate answers behind its header: so it is of whatever bytes that header began.
+fn answer_headed<'a, R: Source, W: CheckWatch>(
+    alloc: Global,
+    problem: &'a Problem,
+    version: u8,
+    reader: RecordReader,
+    bounds: &'a [Box<dyn Bound>],
+    source: &mut R,
+    watch: &mut W,
+    max_records: u64,
+    max_named: u32,
+) -> Result<Answer, AnswerFault>
+    requires ready { IsReading version reader }
+    ensures headline { IfOk result (λ a. IsExactAnswer problem.now.diagram problem.now.length a.games) }
+    ensures order { IfOk result (λ a. IsGames a.games) }
+    ensures accepted { (known : Option (List ℕ))
+        → Headed problem.now.diagram problem.now.length known (to_come reader (R.left source.old)) version
+        → AnswerAccepts (terms (rules_by code_of excluded bounds.now) max_records max_named known)
+        problem.now.diagram problem.now.length result }
+    ensures refused { (known : Option (List ℕ))
+        → Headed problem.now.diagram problem.now.length known (to_come reader (R.left source.old)) version
+        → AnswerRefuses (terms (any_rules_by code_of excluded bounds.now) max_records max_named known)
+        problem.now.diagram problem.now.length (R.has_failed source.new) result }
+    ensures pulls { AnswerTakes (longest_record * max_records + 4096)
+        (to_come reader (R.left source.old)) (R.left source.new) result }
+    ensures end { OnOk result (IsAtEnd (R.left source.new)) }
+    ensures runs { OnOk result (R.has_failed source.new ≡ false) }
+    ensures tells { AnswerTells problem.now.diagram problem.now.length result }
+{
     let question = Question {
-        diagram,
-        plies,
+        diagram: &problem.diagram,
+        plies: problem.length.plies(),
         version,
         games: None,
         bounds,
-        rows: rows_for(version, diagram),
+        rows: rows_for(version, &problem.diagram),
     };
+    let mut machine = Machine::new(alloc, reader, max_records, max_named);
     match walk(&question, &mut machine, source, watch) {
         Ok(proved) => answered(machine.finds, proved),
         Err(halt) => Err(AnswerFault::Check(fault_of(halt, machine.stack.frames.as_slice()))),

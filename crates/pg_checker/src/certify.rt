@@ -17,21 +17,18 @@ ghost use Rattle.pg_checker.specs.inner.Steps.{FailsRead};
 ghost use Rattle.pg_checker.specs.Terms.{terms};
 
 use crate::fault::Fault;
-use crate::finds::Finds;
 use crate::halt::{Halt, Reason, fault_of};
 use crate::listed::check_listed;
-use crate::machine::{Input, Machine, Names, Question, Stack};
+use crate::machine::{Machine, Question};
 use crate::node::halt_of;
-use crate::table::Table;
 use crate::walk::all_trees;
 use crate::watch::CheckWatch;
-use arrayvec::ArrayVec;
 use pg_captures::Bound;
 use pg_certificate::{ReadFault, RecordReader, Source};
 use pg_fen::{Diagram, Length};
 use pg_moves::Unwatched;
 use pg_san::Games;
-use pg_travel::{Prices, Rows};
+use pg_travel::Rows;
 use std::alloc::Global;
 
 /// What proved the answer: how many records the certificate has, and how many named nodes.
@@ -49,16 +46,15 @@ pub struct Answer {
 }
 
 // A refusal to read a header, as a fault.
-fn header_fault(fault: ReadFault) -> Fault
+pub(crate) fn header_fault(fault: ReadFault) -> Fault
     ensures { result ≡ header_fault fault }
 {
     match fault {
         ReadFault::Magic => Fault::Magic,
-        ReadFault::Read => Fault::Read,
-        ReadFault::Failed => Fault::Read,
-        ReadFault::Truncated => Fault::Truncated,
-        ReadFault::Trailing => Fault::Truncated,
-        ReadFault::UnknownRecord(_) => Fault::Truncated,
+        ReadFault::Read | ReadFault::Failed => Fault::Read,
+        ReadFault::Truncated | ReadFault::Trailing | ReadFault::UnknownRecord(_) => {
+            Fault::Truncated
+        }
     }
 }
 
@@ -227,23 +223,8 @@ pub fn check_watched<R: Source, W: CheckWatch>(
         Err(fault) => return Err(Fault::Listed(fault)),
     }
     let plies = length.plies();
-    let mut machine = Machine {
-        input: Input {
-            reader: RecordReader::new(),
-            prices: Prices::new(&[], &[]).unwrap(),
-            records: max_records,
-        },
-        names: Names {
-            table: Table::new(alloc),
-            left: max_named,
-        },
-        stack: Stack {
-            frames: ArrayVec::new(),
-            fertile: false,
-        },
-        finds: Finds::new(alloc),
-    };
-    let version = match read_header(diagram, plies, &mut machine.input.reader, source) {
+    let mut reader = RecordReader::new();
+    let version = match read_header(diagram, plies, &mut reader, source) {
         Ok(version) => version,
         Err(fault) => return Err(fault),
     };
@@ -255,6 +236,7 @@ pub fn check_watched<R: Source, W: CheckWatch>(
         bounds,
         rows: rows_for(version, diagram),
     };
+    let mut machine = Machine::new(alloc, reader, max_records, max_named);
     match walk(&question, &mut machine, source, watch) {
         Ok(proved) => Ok(proved),
         Err(halt) => Err(fault_of(halt, machine.stack.frames.as_slice())),

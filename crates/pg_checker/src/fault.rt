@@ -90,6 +90,17 @@ pub enum AnswerFault {
     Memory,
 }
 
+/// Why a certificate is not opened, the first of these that holds.
+#[derive(Debug, PartialEq, Eq, Drop, Error)]
+pub enum OpenFault {
+    /// Its header is not read: `Read`, `Truncated` or `Magic` of a check.
+    #[error("{0}")]
+    Header(Fault),
+    /// Its header names no problem: no diagram has those 32 bytes, or no length those plies.
+    #[error("certificate for no problem")]
+    NoProblem,
+}
+
 /// Why a check ends without its report, the first of these that holds.
 #[derive(Debug, PartialEq, Eq, Drop, Error)]
 pub enum RunFault {

@@ -1,6 +1,6 @@
 //! What the walk holds.
-ghost use Rattle.std.specs.Prelude.{◌≡◌, ◌≤◌, length, reverse};
-ghost use Rattle.pg_checker.specs.inner.Machine.{path};
+ghost use Rattle.std.specs.Prelude.{◌≡◌, ◌≤◌, ℕ, None, [], length, reverse};
+ghost use Rattle.pg_checker.specs.inner.Machine.{IsReading, IsReady, path};
 
 use crate::finds::Finds;
 use crate::table::Table;
@@ -12,6 +12,7 @@ use pg_moves::LegalMoves;
 use pg_position::{Move, Position};
 use pg_san::Games;
 use pg_travel::{Prices, Rows};
+use std::alloc::Global;
 
 // What is asked of a certificate: with a list of games, or with none, where each game on the diagram is kept; its
 // version, which its header told, and rows of distances for the tests of price lists, where they are at hand.
@@ -84,6 +85,41 @@ pub(crate) struct Machine {
     pub(crate) names: Names,
     pub(crate) stack: Stack,
     pub(crate) finds: Finds,
+}
+
+impl Machine {
+    // Before the first tree, with a reader of its records and limits of records and of named nodes.
+    pub(crate) fn new(
+        alloc: Global,
+        reader: RecordReader,
+        max_records: u64,
+        max_named: u32,
+    ) -> Machine
+        ensures reader { result.input.reader ≡ reader }
+        ensures records { result.input.records ≡ max_records }
+        ensures room { result.names.left ≡ max_named }
+        ensures entries { result.names.table.entries ≡ [] }
+        ensures closed { result.stack.frames.items ≡ [] }
+        ensures finds { result.finds ≡ record { games = []; loss = None } }
+        ensures ready { (version : ℕ) → IsReading version reader → IsReady version result }
+    {
+        Machine {
+            input: Input {
+                reader,
+                prices: Prices::new(&[], &[]).unwrap(),
+                records: max_records,
+            },
+            names: Names {
+                table: Table::new(alloc),
+                left: max_named,
+            },
+            stack: Stack {
+                frames: ArrayVec::new(),
+                fertile: false,
+            },
+            finds: Finds::new(alloc),
+        }
+    }
 }
 
 // The game that leads along the open nodes: the move that was played last at each.
