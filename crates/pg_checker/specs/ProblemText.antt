@@ -4,12 +4,11 @@ use Rattle.pg_board.specs.Placement.{Placement}
 use Rattle.pg_fen.specs.Fields.{fields}
 use Rattle.pg_fen.specs.DiagramText.{diagram_of}
 use Rattle.pg_fen.specs.Lengths.{length_of}
-use Rattle.pg_checker.specs.declared.fault.RunFault.{RunFault}
-use Rattle.pg_checker.specs.declared.fault.RunFault.TheVariants.{Diagram, Length}
+use Rattle.pg_checker.specs.declared.fault.ProblemFault.{ProblemFault}
+use Rattle.pg_checker.specs.declared.fault.ProblemFault.TheVariants.{Diagram, Length}
 
 -- why two texts are no problem: the first is refused as a diagram; else the second as a length
-abbrev pub IsProblemFault : List ℕ → List ℕ → RunFault → Type 0
+abbrev pub IsProblemFault : List ℕ → List ℕ → ProblemFault → Type 0
 IsProblemFault diagram length (Diagram fault) = diagram_of (fields diagram) ≡ Err fault
 IsProblemFault diagram length (Length fault) =
     ((d : Placement) × (diagram_of (fields diagram) ≡ Ok d)) × (length_of length ≡ Err fault)
-IsProblemFault diagram length fault = ⊥

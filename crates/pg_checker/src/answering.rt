@@ -26,6 +26,7 @@ use pg_certificate::{RecordReader, Source};
 use pg_fen::{Diagram, Length};
 use pg_moves::Unwatched;
 use std::alloc::Global;
+use std::mem;
 
 // What was found, where each game was kept.
 fn answered(finds: Finds, proved: Proved) -> Result<Answer, AnswerFault>
@@ -134,7 +135,7 @@ pub fn answer_watched<'a, R: Source, W: CheckWatch>(
         alloc,
         &problem,
         version,
-        reader,
+        &mut reader,
         bounds,
         source,
         watch,
@@ -145,43 +146,43 @@ pub fn answer_watched<'a, R: Source, W: CheckWatch>(
 
 /// As `answer_watched`, of a certificate that was opened, for the problem that its header names. `source` is the one
 /// that it was opened from, as that call left it: the bytes of the certificate are `bytes_of` what was opened and what
-/// is left there.
+/// is left there. What was read behind the header is taken from what was opened, and counts as read.
 ///
 /// # Errors
 /// As for `answer`, but for those at the header.
 pub fn answer_opened<R: Source, W: CheckWatch>(
     alloc: Global,
-    opened: Opened,
+    opened: &mut Opened,
     bounds: &[Box<dyn Bound>],
     source: &mut R,
     watch: &mut W,
     max_records: u64,
     max_named: u32,
 ) -> Result<Answer, AnswerFault>
-    ensures headline { IfOk result (λ a. IsExactAnswer opened.diagram opened.plies a.games) }
+    ensures headline { IfOk result (λ a. IsExactAnswer opened.old.diagram opened.old.plies a.games) }
     ensures order { IfOk result (λ a. IsGames a.games) }
     ensures accepted { AnswerAccepts
-        (terms (rules_by code_of excluded bounds.now) max_records max_named (bytes_of opened (R.left source.old)))
-        opened.diagram opened.plies result }
+        (terms (rules_by code_of excluded bounds.now) max_records max_named (bytes_of opened.old (R.left source.old)))
+        opened.old.diagram opened.old.plies result }
     ensures refused { AnswerRefuses
-        (terms (any_rules_by code_of excluded bounds.now) max_records max_named (bytes_of opened (R.left source.old)))
-        opened.diagram opened.plies (R.has_failed source.new) result }
+        (terms (any_rules_by code_of excluded bounds.now) max_records max_named
+        (bytes_of opened.old (R.left source.old)))
+        opened.old.diagram opened.old.plies (R.has_failed source.new) result }
     ensures pulls { AnswerTakes (longest_record * max_records + 4096)
-        (behind opened (R.left source.old)) (R.left source.new) result }
+        (behind opened.old (R.left source.old)) (R.left source.new) result }
     ensures end { OnOk result (IsAtEnd (R.left source.new)) }
     ensures runs { OnOk result (R.has_failed source.new ≡ false) }
-    ensures tells { AnswerTells opened.diagram opened.plies result }
+    ensures problem { (opened.new.diagram ≡ opened.old.diagram) × (opened.new.plies ≡ opened.old.plies) }
+    ensures tells { AnswerTells opened.old.diagram opened.old.plies result }
 {
-    let Opened {
-        problem,
-        version,
-        reader,
-    } = opened;
+    // The reader that is left in its place has read nothing.
+    let version = opened.version;
+    opened.version = 1;
     answer_headed(
         alloc,
-        &problem,
+        &opened.problem,
         version,
-        reader,
+        &mut opened.reader,
         bounds,
         source,
         watch,
@@ -190,31 +191,33 @@ pub fn answer_opened<R: Source, W: CheckWatch>(
     )
 }
 
-// What a certificate answers behind its header: so it is of whatever bytes that header began.
+// What a certificate answers behind its header: so it is of whatever bytes that header began. In the place of the reader
+// there is then one that has read nothing.
 fn answer_headed<'a, R: Source, W: CheckWatch>(
     alloc: Global,
     problem: &'a Problem,
     version: u8,
-    reader: RecordReader,
+    reader: &mut RecordReader,
     bounds: &'a [Box<dyn Bound>],
     source: &mut R,
     watch: &mut W,
     max_records: u64,
     max_named: u32,
 ) -> Result<Answer, AnswerFault>
-    requires ready { IsReading version reader }
+    requires ready { IsReading version reader.old }
+    ensures fresh { IsReading 1 reader.new }
     ensures headline { IfOk result (λ a. IsExactAnswer problem.now.diagram problem.now.length a.games) }
     ensures order { IfOk result (λ a. IsGames a.games) }
     ensures accepted { (known : Option (List ℕ))
-        → Headed problem.now.diagram problem.now.length known (to_come reader (R.left source.old)) version
+        → Headed problem.now.diagram problem.now.length known (to_come reader.old (R.left source.old)) version
         → AnswerAccepts (terms (rules_by code_of excluded bounds.now) max_records max_named known)
         problem.now.diagram problem.now.length result }
     ensures refused { (known : Option (List ℕ))
-        → Headed problem.now.diagram problem.now.length known (to_come reader (R.left source.old)) version
+        → Headed problem.now.diagram problem.now.length known (to_come reader.old (R.left source.old)) version
         → AnswerRefuses (terms (any_rules_by code_of excluded bounds.now) max_records max_named known)
         problem.now.diagram problem.now.length (R.has_failed source.new) result }
     ensures pulls { AnswerTakes (longest_record * max_records + 4096)
-        (to_come reader (R.left source.old)) (R.left source.new) result }
+        (to_come reader.old (R.left source.old)) (R.left source.new) result }
     ensures end { OnOk result (IsAtEnd (R.left source.new)) }
     ensures runs { OnOk result (R.has_failed source.new ≡ false) }
     ensures tells { AnswerTells problem.now.diagram problem.now.length result }
@@ -227,7 +230,8 @@ fn answer_headed<'a, R: Source, W: CheckWatch>(
         bounds,
         rows: rows_for(version, &problem.diagram),
     };
-    let mut machine = Machine::new(alloc, reader, max_records, max_named);
+    let mut machine = Machine::new(alloc, max_records, max_named);
+    mem::swap(&mut machine.input.reader, reader);
     match walk(&question, &mut machine, source, watch) {
         Ok(proved) => answered(machine.finds, proved),
         Err(halt) => Err(AnswerFault::Check(fault_of(halt, machine.stack.frames.as_slice()))),

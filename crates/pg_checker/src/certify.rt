@@ -223,8 +223,8 @@ pub fn check_watched<R: Source, W: CheckWatch>(
         Err(fault) => return Err(Fault::Listed(fault)),
     }
     let plies = length.plies();
-    let mut reader = RecordReader::new();
-    let version = match read_header(diagram, plies, &mut reader, source) {
+    let mut machine = Machine::new(alloc, max_records, max_named);
+    let version = match read_header(diagram, plies, &mut machine.input.reader, source) {
         Ok(version) => version,
         Err(fault) => return Err(fault),
     };
@@ -236,7 +236,6 @@ pub fn check_watched<R: Source, W: CheckWatch>(
         bounds,
         rows: rows_for(version, diagram),
     };
-    let mut machine = Machine::new(alloc, reader, max_records, max_named);
     match walk(&question, &mut machine, source, watch) {
         Ok(proved) => Ok(proved),
         Err(halt) => Err(fault_of(halt, machine.stack.frames.as_slice())),

@@ -3,7 +3,6 @@ use arrayvec::ArrayVec;
 use pg_certificate::ReadFault;
 use pg_fen::{FenFault, LengthFault};
 use pg_position::Move;
-use pg_san::GamesFault;
 use thiserror::Error;
 
 /// Why a listed game is no solution. Games are counted from 0, in canonical order.
@@ -101,22 +100,13 @@ pub enum OpenFault {
     NoProblem,
 }
 
-/// Why a check ends without its report, the first of these that holds.
-#[derive(Debug, PartialEq, Eq, Drop, Error)]
-pub enum RunFault {
+/// Why two texts are no problem, the first of these that holds.
+#[derive(Clone, Copy, Debug, PartialEq, Eq, Error)]
+pub enum ProblemFault {
     /// The text is refused as a diagram.
     #[error("{0}")]
     Diagram(FenFault),
     /// The text is refused as a length.
     #[error("{0}")]
     Length(LengthFault),
-    /// The text is refused as a list of games.
-    #[error("{0}")]
-    Games(GamesFault),
-    /// The check does not say yes.
-    #[error("{0}")]
-    Check(Fault),
-    /// The sink has failed. How many bytes went out is not known.
-    #[error("write fault")]
-    Write,
 }

@@ -26,7 +26,7 @@ pub use chess_laws::{
     records_are_read_as_spelled, refused_at_the_first_cause, rules_are_those_of_chess,
     what_refusals_prove,
 };
-pub use fault::{AnswerFault, Fault, ListFault, OpenFault, RunFault};
+pub use fault::{AnswerFault, Fault, ListFault, OpenFault, ProblemFault};
 pub use listed::check_listed;
 pub use nearness::{leads_to, skip_to_solution};
 pub use opening::{Opened, open, problem_of};

@@ -1,6 +1,7 @@
 //! What the walk holds.
 ghost use Rattle.std.specs.Prelude.{◌≡◌, ◌≤◌, ℕ, None, [], length, reverse};
-ghost use Rattle.pg_checker.specs.inner.Machine.{IsReading, IsReady, path};
+ghost use Rattle.pg_certificate.specs.Reader.{ReaderState};
+ghost use Rattle.pg_checker.specs.inner.Machine.{IsReading, IsReady, path, with_reader};
 
 use crate::finds::Finds;
 use crate::table::Table;
@@ -88,24 +89,22 @@ pub(crate) struct Machine {
 }
 
 impl Machine {
-    // Before the first tree, with a reader of its records and limits of records and of named nodes.
-    pub(crate) fn new(
-        alloc: Global,
-        reader: RecordReader,
-        max_records: u64,
-        max_named: u32,
-    ) -> Machine
-        ensures reader { result.input.reader ≡ reader }
+    // Before the first tree, with limits of records and of named nodes. Its reader has read nothing: it is large, so the
+    // one that has read the header is made or put there.
+    pub(crate) fn new(alloc: Global, max_records: u64, max_named: u32) -> Machine
+        ensures held { result.input.reader.held ≡ [] }
+        ensures reads { IsReading 1 result.input.reader }
         ensures records { result.input.records ≡ max_records }
         ensures room { result.names.left ≡ max_named }
         ensures entries { result.names.table.entries ≡ [] }
         ensures closed { result.stack.frames.items ≡ [] }
         ensures finds { result.finds ≡ record { games = []; loss = None } }
-        ensures ready { (version : ℕ) → IsReading version reader → IsReady version result }
+        ensures ready { (version : ℕ) (reader : ReaderState) → IsReading version reader
+            → IsReady version (with_reader reader result) }
     {
         Machine {
             input: Input {
-                reader,
+                reader: RecordReader::new(),
                 prices: Prices::new(&[], &[]).unwrap(),
                 records: max_records,
             },

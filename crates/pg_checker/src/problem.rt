@@ -5,7 +5,7 @@ ghost use Rattle.pg_fen.specs.DiagramText.{diagram_of};
 ghost use Rattle.pg_fen.specs.Lengths.{length_of};
 ghost use Rattle.pg_checker.specs.ProblemText.{IsProblemFault};
 
-use crate::fault::RunFault;
+use crate::fault::ProblemFault;
 use pg_fen::{Diagram, Length};
 
 /// A problem: which games of this length end on this diagram?
@@ -21,18 +21,18 @@ impl Problem {
     ///
     /// # Errors
     /// `Diagram` and then `Length` where that text is refused, with its refusal.
-    pub fn read(diagram: &str, length: &str) -> Result<Problem, RunFault>
+    pub fn read(diagram: &str, length: &str) -> Result<Problem, ProblemFault>
         ensures ok { IfOk result (λ p. (diagram_of (fields diagram.now) ≡ Ok p.diagram)
             × (length_of length.now ≡ Ok p.length)) }
         ensures err { IfErr result (λ e. IsProblemFault diagram.now length.now e) }
     {
         let diagram = match Diagram::read(diagram) {
             Ok(diagram) => diagram,
-            Err(fault) => return Err(RunFault::Diagram(fault)),
+            Err(fault) => return Err(ProblemFault::Diagram(fault)),
         };
         match Length::read(length) {
             Ok(length) => Ok(Problem { diagram, length }),
-            Err(fault) => Err(RunFault::Length(fault)),
+            Err(fault) => Err(ProblemFault::Length(fault)),
         }
     }
 }

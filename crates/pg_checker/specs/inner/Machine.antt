@@ -171,6 +171,15 @@ pub record IsReading (version : ℕ) (reader : ReaderState) : Type 0 where
   pub reads : reader.version ≡ version
   pub held : length reader.held ≤ 4096
 
+-- the machine with another reader
+abbrev pub with_reader : ReaderState → Machine → Machine
+with_reader reader m = record {
+  input = record { reader = reader; prices = m.input.prices; records = m.input.records };
+  names = m.names;
+  stack = m.stack;
+  finds = m.finds;
+}
+
 -- the reader of the machine reads, a place is kept in the table for each open node that is named, and the open nodes
 -- lead from one to the next
 pub record IsReady (version : ℕ) (m : Machine) : Type 0 where
