@@ -6,13 +6,13 @@ use pg_certificate::format::MOST_NAMED;
 use pg_certificate::{FromRead, Record, RecordReader, ToWrite};
 use pg_checker::check;
 use pg_fen::{Diagram, Length};
-use pg_journeys::Journeys;
+use pg_journeys::JourneysByMemory;
 use pg_moves::Unwatched;
 use pg_pawns::PawnFiles;
 use pg_san::Games;
-use pg_searcher::{search, search_by_journeys};
+use pg_searcher::search_by_journeys;
 use pg_travel::Travel;
-use std::alloc::{AllocError, Global};
+use std::alloc::Global;
 
 // Problems of four to nine moves: diagram and length.
 const TABLE: [(&str, &str); 11] = [
@@ -99,21 +99,24 @@ pub(crate) struct Asked {
     pub(crate) is_checked: bool,
 }
 
-fn run(alloc: Global, diagram: &Diagram, length: Length, asked: Asked) -> anyhow::Result<Found> {
+// Searches, and cuts by journeys where these bounds have that one.
+fn run(
+    alloc: Global,
+    diagram: &Diagram,
+    length: Length,
+    bounds: &[Box<dyn Bound>],
+    nodes: u64,
+) -> anyhow::Result<Found> {
     let mut sink = ToWrite::new(Vec::new(alloc));
-    let found = if asked.by_journeys {
-        search_by_journeys(
-            alloc,
-            diagram,
-            length,
-            asked.nodes,
-            &mut sink,
-            &mut Unwatched,
-        )
-    } else {
-        search(alloc, diagram, length, asked.nodes, &mut sink)
-    };
-    let games = match found {
+    let games = match search_by_journeys(
+        alloc,
+        diagram,
+        length,
+        nodes,
+        bounds,
+        &mut sink,
+        &mut Unwatched,
+    ) {
         Ok(games) => games,
         Err(fault) => Err(Fault::Search(fault))?,
     };
@@ -138,27 +141,22 @@ fn holds(
     alloc: Global,
     diagram: &Diagram,
     length: Length,
+    bounds: &[Box<dyn Bound>],
     found: &Found,
     nodes: u64,
-) -> Result<bool, AllocError> {
-    let mut bounds: Vec<Box<dyn Bound>> = Vec::new(alloc);
-    bounds.push(Box::new(alloc, Captures)?)?;
-    bounds.push(Box::new(alloc, Promotions)?)?;
-    bounds.push(Box::new(alloc, PawnFiles)?)?;
-    bounds.push(Box::new(alloc, Travel)?)?;
-    bounds.push(Box::new(alloc, Journeys)?)?;
+) -> bool {
     let mut source = FromRead::new(found.bytes.as_slice());
     let answer = check(
         alloc,
         diagram,
         length,
         &found.games,
-        bounds.as_slice(),
+        bounds,
         &mut source,
         nodes,
         MOST_NAMED,
     );
-    Ok(answer.is_ok())
+    answer.is_ok()
 }
 
 fn print(rt: &HostRuntime, found: &Found) -> anyhow::Result<()> {
@@ -190,7 +188,7 @@ pub(crate) fn print_table(rt: &HostRuntime) -> anyhow::Result<()> {
     print_one(rt, diagram, length, by_journeys)
 }
 
-// Searches for one problem as it is asked, and prints the numbers.
+// Searches for one problem as it is asked, and prints the numbers. A check goes by the bounds that the search was lent.
 pub(crate) fn print_one(
     rt: &HostRuntime,
     diagram: &str,
@@ -198,8 +196,19 @@ pub(crate) fn print_one(
     asked: Asked,
 ) -> anyhow::Result<()> {
     let (diagram, length) = read(diagram, length)?;
-    let found = run(rt.alloc(), &diagram, length, asked)?;
-    if asked.is_checked && !holds(rt.alloc(), &diagram, length, &found, asked.nodes)? {
+    let alloc = rt.alloc();
+    let mut bounds: Vec<Box<dyn Bound>> = Vec::new(alloc);
+    bounds.push(Box::new(alloc, Captures)?)?;
+    bounds.push(Box::new(alloc, Promotions)?)?;
+    bounds.push(Box::new(alloc, PawnFiles)?)?;
+    bounds.push(Box::new(alloc, Travel)?)?;
+    if asked.by_journeys {
+        let journeys = JourneysByMemory::new(alloc, &diagram)?;
+        bounds.push(Box::new(alloc, journeys)?)?;
+    }
+    let nodes = asked.nodes;
+    let found = run(alloc, &diagram, length, bounds.as_slice(), nodes)?;
+    if asked.is_checked && !holds(alloc, &diagram, length, bounds.as_slice(), &found, nodes) {
         return Err(Fault::Refused)?;
     }
     print(rt, &found)

@@ -3,10 +3,11 @@ ghost use Rattle.std.specs.Prelude.{◌≡◌, ◌≤◌};
 ghost use Rattle.pg_searcher.specs.Refusals.{RefusesTruly};
 
 use crate::fault::SearchFault;
-use crate::judge::{AskedJourneys, Judge};
+use crate::judge::{Asked, Judge, journeys_among};
 use crate::machine::{Findings, Frames, Machine, Question, Recorder, written};
 use crate::progress::SearchProgress;
 use crate::walk::tree_of;
+use pg_captures::Bound;
 use pg_certificate::{Header, Sink};
 use pg_fen::{Diagram, Length};
 use pg_moves::Unwatched;
@@ -48,12 +49,11 @@ fn write<W: Sink, P: SearchProgress>(
     written(machine.recorder.output.writer.finish(sink))
 }
 
-// How far a search goes: to games of so many plies, over so many nodes at most; and whether it cuts by journeys too.
+// How far a search goes: to games of a length, and over how many nodes at most.
 #[derive(Clone, Copy)]
 struct Reach {
     length: Length,
     max_nodes: u64,
-    by_journeys: bool,
 }
 
 // What a search that gives up says. A write that is refused leaves the sink failed, and a tree is shorter where it has
@@ -70,20 +70,18 @@ fn refused<W: Sink>(fault: SearchFault, plies: u8, sink: &W) -> Result<Games, Se
     }
 }
 
-// What a search comes to.
+// What a search comes to, which cuts by journeys too where they are asked.
 fn searched<W: Sink, P: SearchProgress>(
     alloc: Global,
     diagram: &Diagram,
     reach: &Reach,
+    journeys: Option<Asked<'_>>,
     sink: &mut W,
     watch: &mut P,
 ) -> Result<Games, SearchFault>
     ensures { RefusesTruly reach.now.length (W.has_failed sink.new) result }
 {
     let Ok(judge) = Judge::new(alloc, diagram) else {
-        return Err(SearchFault::Memory);
-    };
-    let Ok(journeys) = AskedJourneys::new(alloc, diagram, reach.by_journeys) else {
         return Err(SearchFault::Memory);
     };
     let mut frames = Frames::new(alloc);
@@ -105,7 +103,7 @@ fn searched<W: Sink, P: SearchProgress>(
     Ok(games)
 }
 
-/// Searches for the games of so many plies from the initial array that end on the diagram, and
+/// Searches for the games of a length from the initial array that end on the diagram, and
 /// writes a certificate of version 2 that no others do. The answer is trusted for nothing: a check
 /// of what was written, with the games that were found, says whether it is right.
 ///
@@ -148,35 +146,31 @@ pub fn search_watched<W: Sink, P: SearchProgress>(
 ) -> Result<Games, SearchFault>
     ensures { RefusesTruly length (W.has_failed sink.new) result }
 {
-    let reach = Reach {
-        length,
-        max_nodes,
-        by_journeys: false,
-    };
-    searched(alloc, diagram, &reach, sink, watch)
+    let reach = Reach { length, max_nodes };
+    searched(alloc, diagram, &reach, None, sink, watch)
 }
 
 /// As `search_watched`, and cuts by journeys too: a node with at least two plies left that no other bound and no
-/// prices exclude, and that does not refer to a closed node, is cut where `pg_journeys::Journeys` excludes, and
-/// expanded only where it does not. So a check of what was written wants that bound, of code 5, beside the four of
-/// `search`. A problem of many moves takes far fewer nodes, and each that is expanded more time.
+/// prices exclude, and that does not refer to a closed node, is cut where the first bound of code 5 among `bounds`
+/// excludes, and expanded only where it does not. With no bound of that code it is `search_watched`. So a check of what
+/// was written wants that very bound beside the four of `search`; where it remembers what it has shown, as
+/// `pg_journeys::JourneysByMemory` does, the check is the sooner for it. A problem of many moves takes far fewer nodes,
+/// and each that is expanded more time.
 ///
 /// # Errors
 /// As for `search_watched`.
-pub fn search_by_journeys<W: Sink, P: SearchProgress>(
+pub fn search_by_journeys<'a, W: Sink, P: SearchProgress>(
     alloc: Global,
-    diagram: &Diagram,
+    diagram: &'a Diagram,
     length: Length,
     max_nodes: u64,
+    bounds: &'a [Box<dyn Bound>],
     sink: &mut W,
     watch: &mut P,
 ) -> Result<Games, SearchFault>
     ensures { RefusesTruly length (W.has_failed sink.new) result }
 {
-    let reach = Reach {
-        length,
-        max_nodes,
-        by_journeys: true,
-    };
-    searched(alloc, diagram, &reach, sink, watch)
+    let reach = Reach { length, max_nodes };
+    let journeys = journeys_among(diagram, bounds);
+    searched(alloc, diagram, &reach, journeys, sink, watch)
 }

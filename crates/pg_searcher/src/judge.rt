@@ -1,14 +1,15 @@
 //! Which cut excludes a node, by what is remembered of the men and rights of either colour.
-ghost use Rattle.std.specs.Prelude.{◌≡◌, ◌↔◌, IsTrue, MatchOption, false};
-ghost use Rattle.pg_journeys.specs.Rounds.{JourneysHold};
+ghost use Rattle.std.specs.Prelude.{◌≡◌, IfSome, MatchOption, false};
+ghost use Rattle.std.specs.Option.{option_map};
+ghost use Rattle.pg_captures.specs.Lists.{first_of};
 
 use crate::known::{Known, MISSING, after_plain};
 use crate::outlook::Outlook;
 use crate::sides::{Change, Changes, Side, Sides, side_of};
 use pg_board::Color;
-use pg_captures::{Captures, Promotions, plies_left};
+use pg_captures::{Bound, Captures, Promotions, plies_left};
 use pg_fen::Diagram;
-use pg_journeys::{FirstAims, Journeys, Memory, journeys_hold_with};
+use pg_journeys::Journeys;
 use pg_pawns::PawnFiles;
 use pg_position::Position;
 use pg_prices::{NEVER, Needs, Rows, UNKNOWN};
@@ -129,7 +130,7 @@ fn shorter(white: Option<u16>, black: Option<u16>) -> Option<Color> {
 }
 
 // How many price bytes a cut by pawn files has, where the prices exclude: one for each pawn of the side, and of the
-// diagram, so many.
+// diagram, which has `goal`.
 fn pawn_length(means: Means, side: &Side, goal: u8) -> Option<u16> {
     if i16::from(side.needs.pawns) > means.owed {
         Some(u16::from(side.pawns) + u16::from(goal))
@@ -139,7 +140,7 @@ fn pawn_length(means: Means, side: &Side, goal: u8) -> Option<u16> {
 }
 
 // How many price bytes a cut by travel has, where the prices exclude: for each way one for each man of the side, and
-// of the diagram, so many.
+// of the diagram, which has `goal`.
 fn travel_length(means: Means, side: &Side, goal: u8) -> Option<u16> {
     if side.needs.travel > means.plies {
         let men = u16::from(side.men) + u16::from(goal);
@@ -157,53 +158,60 @@ fn excludes(means: Means, needs: &Needs) -> bool {
     needs.travel != UNKNOWN && (i16::from(needs.pawns) > means.owed || needs.travel > means.plies)
 }
 
-// The bound by journeys to a diagram, as a search asks it, and what it remembers from one node to the next.
-#[derive(Drop)]
-pub(crate) struct AskedJourneys {
-    diagram: Diagram,
-    aims: FirstAims,
-    memory: Memory,
+// The bound by journeys, as a search asks it of the way to a diagram.
+#[derive(Clone, Copy)]
+pub(crate) struct Asked<'a> {
+    diagram: &'a Diagram,
+    bound: &'a Box<dyn Bound>,
 }
 
-impl AskedJourneys {
-    // That bound, if it is asked. What it knows of the diagram is taken from `alloc`.
-    pub(crate) fn new(
-        alloc: Global,
-        diagram: &Diagram,
-        is_asked: bool,
-    ) -> Result<Option<AskedJourneys>, AllocError> {
-        if !is_asked {
-            return Ok(None);
-        }
-        Ok(Some(AskedJourneys {
-            diagram: *diagram,
-            aims: FirstAims::new(alloc, diagram)?,
-            memory: Memory::new(alloc, diagram)?,
-        }))
+impl<'a> Asked<'a> {
+    // A bound that is asked of the way to a diagram.
+    pub(crate) fn of(diagram: &'a Diagram, bound: &'a Box<dyn Bound>) -> Asked<'a> {
+        Asked { diagram, bound }
     }
 
-    // Whether it excludes a node with so many plies left. It stands out of line: where it is not asked, nothing is to
+    // Whether it excludes a node with `left` plies left. It stands out of line: where it is not asked, nothing is to
     // make room for what it needs.
     #[inline(never)]
-    fn exclude(&mut self, position: &Position, left: u8) -> bool
-        ensures { IsTrue result ↔ JourneysHold self.old.diagram position.now left }
+    fn exclude(&self, position: &Position, left: u8) -> bool
+        ensures { result ≡ excluded self.now.bound.now self.now.diagram.now position.now left }
     {
-        journeys_hold_with(&mut self.memory, &self.aims, &self.diagram, position, left)
+        self.bound.excludes(self.diagram, position, left)
     }
 }
 
-// Whether journeys, where they are asked, exclude a node with so many plies left. Where they are not, that is but one
+// The code by which a certificate names a bound.
+fn code_of_box(bound: &Box<dyn Bound>) -> u8
+    ensures { result ≡ code_of bound.now }
+{
+    bound.code()
+}
+
+// The first of these bounds that has the code of journeys, if there is one.
+pub(crate) fn journeys_among<'a>(
+    diagram: &'a Diagram,
+    bounds: &'a [Box<dyn Bound>],
+) -> Option<Asked<'a>>
+    ensures first { option_map (λ asked. asked.bound.now) result ≡ first_of (λ b. code_of b) 5 bounds.now }
+    ensures same { IfSome result (λ asked. asked.diagram.now ≡ diagram.now) }
+{
+    for bound in bounds {
+        if code_of_box(bound) == Journeys::CODE {
+            return Some(Asked { diagram, bound });
+        }
+    }
+    None
+}
+
+// Whether journeys, where they are asked, exclude a node with `left` plies left. Where they are not, that is but one
 // branch.
 #[inline(always)]
-pub(crate) fn is_cut_by_journeys(
-    journeys: &mut Option<AskedJourneys>,
-    position: &Position,
-    left: u8,
-) -> bool
-    ensures { MatchOption journeys.old (result ≡ false)
-        (λ asked. IsTrue result ↔ JourneysHold asked.diagram position.now left) }
+pub(crate) fn is_cut_by_journeys(asked: Option<Asked<'_>>, position: &Position, left: u8) -> bool
+    ensures { MatchOption asked.entry (result ≡ false)
+        (λ asked. result ≡ excluded asked.bound.now asked.diagram.now position.now left) }
 {
-    match journeys {
+    match asked {
         Some(asked) => asked.exclude(position, left),
         None => false,
     }
@@ -231,7 +239,7 @@ impl Judge {
         }
     }
 
-    // A colour's numbers where the other one has so many men.
+    // A colour's numbers where the other one has `other_men` men.
     fn means(&self, color: Color, other_men: u8, side: Color, left: u8) -> Means {
         let goal = self.known(color.other()).goal_men;
         Means {
@@ -240,7 +248,7 @@ impl Judge {
         }
     }
 
-    // What becomes of a node with this side to move and so many plies left.
+    // What becomes of a node with this side to move and `left` plies left.
     fn verdict(&self, sides: &Sides, side: Color, left: u8) -> Cutting {
         let white = self.means(Color::White, sides.black.men, side, left);
         let black = self.means(Color::Black, sides.white.men, side, left);
@@ -316,7 +324,7 @@ impl Judge {
         self.verdict(sides, color.other(), left)
     }
 
-    // What judges the plain moves of a colour at a node, after which so many plies are left.
+    // What judges the plain moves of a colour at a node, after which `left` plies are left.
     pub(crate) fn plain_test(&self, color: Color, sides: &Sides, left: u8) -> PlainTest {
         let other = color.other();
         let means = self.means(color, sides.of(other).men, other, left);
@@ -374,7 +382,7 @@ impl Judge {
         }
     }
 
-    // What is known of a node that opens with so many plies left.
+    // What is known of a node that opens with `left` plies left.
     pub(crate) fn outlook(&self, position: &Position, sides: &Sides, left: u8) -> Outlook {
         let left = left.saturating_sub(1);
         if left < 2 {
@@ -389,7 +397,7 @@ impl Judge {
         Outlook::new(sides, left, self.rows(color), position, means)
     }
 
-    // What becomes of a node of which so much is known, with so many plies left, and both its colours.
+    // What becomes of a node of which so much is known, with `left` plies left, and both its colours.
     pub(crate) fn enter(
         &mut self,
         diagram: &Diagram,
@@ -422,7 +430,7 @@ impl Judge {
         Ok(())
     }
 
-    // What becomes of a node with so many plies left. Its colours' needs are complete afterwards, where
+    // What becomes of a node with `left` plies left. Its colours' needs are complete afterwards, where
     // no bound excludes it.
     fn judged(
         &mut self,

@@ -12,6 +12,7 @@ mod judge;
 mod known;
 mod led;
 mod machine;
+mod met;
 mod nearing;
 mod node;
 mod outlook;
@@ -26,6 +27,7 @@ pub use judge::sides_of;
 pub use led::{
     Game, Led, LedEnd, LedFault, LedLimits, LedProgress, search_led, search_led_without_journeys,
 };
+pub use met::Met;
 pub use nearing::may_lead;
 pub use progress::SearchProgress;
 pub use sides::{Change, Changes, Side, Sides, changes_of};

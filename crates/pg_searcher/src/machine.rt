@@ -2,7 +2,7 @@
 
 use crate::budget::Budget;
 use crate::fault::SearchFault;
-use crate::judge::{AskedJourneys, CutBy, Judge};
+use crate::judge::{Asked, CutBy, Judge};
 use crate::outlook::Outlook;
 use crate::sides::Sides;
 use pg_certificate::format::MOST_NAMED;
@@ -14,7 +14,7 @@ use pg_prices::Closed;
 use pg_san::Games;
 use std::alloc::{AllocError, Global};
 
-// What is searched for, games of so many plies to a diagram, and how many plies the tree at work has.
+// What is searched for, games of `plies` plies to a diagram, and how many plies the tree at work has.
 #[derive(Drop)]
 pub(crate) struct Question<'a> {
     pub(crate) diagram: &'a Diagram,
@@ -89,11 +89,11 @@ impl Names {
 // The certificate so far: the writer of its records, the named nodes, which it may refer to, how many nodes may
 // still be visited; and the bound by journeys, where it is asked of each node before it opens.
 #[derive(Drop)]
-pub(crate) struct Output {
+pub(crate) struct Output<'a> {
     pub(crate) writer: RecordWriter,
     pub(crate) names: Names,
     pub(crate) budget: Budget,
-    pub(crate) journeys: Option<AskedJourneys>,
+    pub(crate) journeys: Option<Asked<'a>>,
 }
 
 // What the writer answered, as a search says it.
@@ -105,7 +105,7 @@ pub(crate) fn written(answer: Result<(), WriteFault>) -> Result<(), SearchFault>
     }
 }
 
-impl Output {
+impl Output<'_> {
     // Writes a record.
     pub(crate) fn put<W: Sink>(&mut self, node: &Record, sink: &mut W) -> Result<(), SearchFault> {
         written(self.writer.put_record(node, sink))
@@ -116,7 +116,7 @@ impl Output {
         written(self.writer.put_expansion(named, sink))
     }
 
-    // Writes so many expansions without a name.
+    // Writes `count` expansions without a name.
     pub(crate) fn expansions<W: Sink>(
         &mut self,
         count: u64,
@@ -134,7 +134,7 @@ impl Output {
         written(self.writer.put_cut(bound.code(), sink))
     }
 
-    // Writes so many cuts by a bound.
+    // Writes `count` cuts by a bound.
     pub(crate) fn cuts<W: Sink>(
         &mut self,
         bound: CutBy,
@@ -157,21 +157,21 @@ impl Output {
 // `true` that is handed back speaks of: handed back itself by each call between the one that opens it and the one that
 // makes its frame, it would be copied at each, also where none has opened.
 #[derive(Drop)]
-pub(crate) struct Recorder {
+pub(crate) struct Recorder<'a> {
     pub(crate) judge: Judge,
-    pub(crate) output: Output,
+    pub(crate) output: Output<'a>,
     pub(crate) opened: Opened,
 }
 
-impl Recorder {
-    // Of a certificate of which nothing is written, with so many nodes that may be visited. Where journeys are handed
+impl<'a> Recorder<'a> {
+    // Of a certificate of which nothing is written, with `nodes` nodes that may be visited. Where journeys are handed
     // in, nodes are cut by them.
     pub(crate) fn new(
         alloc: Global,
         judge: Judge,
         nodes: u64,
-        journeys: Option<AskedJourneys>,
-    ) -> Recorder {
+        journeys: Option<Asked<'a>>,
+    ) -> Recorder<'a> {
         Recorder {
             judge,
             output: Output {
@@ -202,7 +202,7 @@ pub(crate) struct Findings {
 // not stand on the stack.
 pub(crate) type Frames = Vec<Frame>;
 
-// Puts the frame of a node in the place behind those of so many open ones.
+// Puts the frame of a node in the place behind those of the `open` open ones.
 pub(crate) fn put_frame(frames: &mut Frames, open: u8, frame: Frame) -> Result<(), SearchFault> {
     if let Some(place) = frames.get_mut(usize::from(open)) {
         *place = frame;
@@ -214,7 +214,7 @@ pub(crate) fn put_frame(frames: &mut Frames, open: u8, frame: Frame) -> Result<(
     }
 }
 
-// The frames of so many open nodes.
+// The frames of the `open` open nodes.
 pub(crate) fn open_frames(frames: &Frames, open: u8) -> &[Frame] {
     match frames.get(..usize::from(open)) {
         Some(frames) => frames,
@@ -225,8 +225,8 @@ pub(crate) fn open_frames(frames: &Frames, open: u8) -> &[Frame] {
 // How many nodes are open, what writes the records of nodes, and what was found. The frames stand apart: one of them and
 // the machine change together.
 #[derive(Drop)]
-pub(crate) struct Machine {
+pub(crate) struct Machine<'a> {
     pub(crate) open: u8,
-    pub(crate) recorder: Recorder,
+    pub(crate) recorder: Recorder<'a>,
     pub(crate) findings: Findings,
 }

@@ -105,14 +105,14 @@ fn open_or_cut<W: Sink>(
     sides: &Sides,
     node: Keyed,
 ) -> Result<bool, SearchFault> {
-    if !is_cut_by_journeys(&mut recorder.output.journeys, position, node.left) {
+    if !is_cut_by_journeys(recorder.output.journeys, position, node.left) {
         return open(recorder, sink, position, sides, node.key);
     }
     recorder.output.cut(CutBy::Journeys, sink)?;
     Ok(false)
 }
 
-// A node that no cut by other bounds or by prices excludes, with so many plies left, at least two: a reference where
+// A node that no cut by other bounds or by prices excludes, with `left` plies left, at least two: a reference where
 // one of the same future has closed barren; otherwise it is open from now on, unless it is cut by journeys. The answer
 // is whether it is open, here and below.
 fn stay<W: Sink>(
@@ -181,7 +181,7 @@ fn stay_after<W: Sink>(
     open_there(recorder, sink, position, m, sides, Keyed { key, left })
 }
 
-// Writes the record of a node that prices exclude, with so many plies left, at least two. Where there are no price
+// Writes the record of a node that prices exclude, with `left` plies left, at least two. Where there are no price
 // lists it is as one that no cut excludes.
 #[inline(never)]
 fn put_priced<W: Sink>(
@@ -202,7 +202,7 @@ fn put_priced<W: Sink>(
     }
 }
 
-// Writes the record of a node that was judged, with so many plies left, at least two.
+// Writes the record of a node that was judged, with `left` plies left, at least two.
 fn put_verdict<W: Sink>(
     recorder: &mut Recorder,
     sink: &mut W,
@@ -228,7 +228,7 @@ fn put_verdict<W: Sink>(
     }
 }
 
-// Judges a node with so many plies left, at least two, of which so much is known, and writes its record.
+// Judges a node with `left` plies left, at least two, of which so much is known, and writes its record.
 #[inline(never)]
 pub(crate) fn enter<W: Sink>(
     question: &Question,

@@ -6,10 +6,10 @@ use pg_position::Move;
 use pg_searcher::{LedProgress, SearchProgress};
 use std::time::{Clock, Instant};
 
-// The clock is asked once in so many turns of a search.
+// In how many turns of a search the clock is asked once.
 const TURNS: u32 = 1024;
 
-// So many digits of a part of a minute count.
+// How many digits of a part of a minute count.
 const PLACES: usize = 6;
 
 /// The milliseconds that a text of minutes says: decimal digits, and maybe a dot and digits behind it, of which the
@@ -53,7 +53,7 @@ pub struct Deadline<'a, R> {
 }
 
 impl<'a, R: Clock> Deadline<'a, R> {
-    /// Of a run that begins now and has so many milliseconds, or any number of them.
+    /// Of a run that begins now, and ends after these milliseconds, if there are any.
     pub fn new(rt: &'a R, milliseconds: Option<u64>) -> Deadline<'a, R>
         ensures { has_ended result ≡ false }
     {

@@ -7,7 +7,7 @@ use arrayvec::ArrayVec;
 use pg_certificate::{Refused, Sink};
 use std::fmt;
 
-// So many bytes are held at most.
+// The most bytes that are held.
 const ROOM: usize = 4096;
 
 /// Hands the bytes that it takes on to a sink, up to 4,096 of small pieces at a time, so that a text of

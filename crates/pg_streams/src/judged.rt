@@ -8,7 +8,7 @@ use std::fmt::Write;
 use std::io::Eprint;
 use std::time::Clock;
 
-// The clock is asked once in so many turns of a search.
+// In how many turns of a search the clock is asked once.
 const TURNS: u32 = 1024;
 
 /// Shows which of the problems is judged, how many there are, the search at work with its limit, the length at work and
@@ -25,7 +25,7 @@ pub struct JudgeLine<'a, R> {
 }
 
 impl<'a, R: Clock + Eprint> JudgeLine<'a, R> {
-    /// Of the problem with this number, from 1, of so many.
+    /// Of the problem with this number, from 1, of `count`.
     pub fn new(rt: &'a R, terminal: &'a Terminal, number: usize, count: usize) -> JudgeLine<'a, R> {
         JudgeLine {
             line: Line::new(rt, terminal),
@@ -37,13 +37,13 @@ impl<'a, R: Clock + Eprint> JudgeLine<'a, R> {
         }
     }
 
-    /// A search begins, which is called so, of so many nodes at most.
+    /// A search begins, which is called so, of `limit` nodes at most.
     pub fn begin(&mut self, called: &'static str, limit: u64) {
         self.called = called;
         self.limit = limit;
     }
 
-    /// The search is at work on this length, and may visit so many nodes more.
+    /// The search is at work on this length, and may visit `left` nodes more.
     pub fn reach(&mut self, plies: u8, left: u64) {
         if !self.line.is_on() {
             return;

@@ -9,7 +9,7 @@ use std::fmt::Write;
 use std::io::Eprint;
 use std::time::Clock;
 
-// The clock is asked once in so many turns of a search.
+// In how many turns of a search the clock is asked once.
 const TURNS: u32 = 1024;
 
 /// Shows how many moves of other kinds a led search allows, the length at work, and how many nodes it has
@@ -22,7 +22,7 @@ pub struct LedLine<'a, R> {
 }
 
 impl<'a, R: Clock + Eprint> LedLine<'a, R> {
-    /// Of a search of so many nodes at most.
+    /// Of a search of `limit` nodes at most.
     pub fn new(rt: &'a R, terminal: &'a Terminal, limit: u64) -> LedLine<'a, R> {
         LedLine {
             line: Line::new(rt, terminal),

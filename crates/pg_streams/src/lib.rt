@@ -1,11 +1,10 @@
 //! What the program's streams go through: a buffer over a sink, a limit of bytes over a writer, the line on the
-//! terminal that says how far a run is, the end of its time, and the games that a search meets.
+//! terminal that says how far a run is, and the end of its time.
 #![tactic(auto)]
 
 mod deadline;
 mod gathered;
 mod judged;
-mod kept;
 mod led;
 mod limited;
 mod line;
@@ -18,7 +17,6 @@ mod until;
 pub use deadline::{Deadline, Timed, milliseconds_of};
 pub use gathered::Gathered;
 pub use judged::{JudgeLine, judge_line};
-pub use kept::Kept;
 pub use led::{LedLine, led_line};
 pub use limited::Limited;
 pub use line::{Cleared, Terminal};

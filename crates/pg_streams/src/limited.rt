@@ -1,4 +1,4 @@
-//! A writer that takes so many bytes at most.
+//! A writer whose bytes are limited.
 ghost use Rattle.std.specs.Prelude.{◌≡◌, ◌↔◌, ◌⊎◌, length, IfOk, IsErr, IsNone, IsTrue, None, OnErr, Some};
 ghost use Rattle.std.specs.Io.{WritesAtMost};
 ghost use Rattle.std.specs.Io.KnownBytes.{WriteAppends};
@@ -8,8 +8,8 @@ use crate::room::Room;
 use std::io;
 use std::io::{ErrorKind, Write};
 
-/// Hands writes on to a writer, so many bytes at most. A write that would pass that is refused whole, by an error of the
-/// kind `FileTooLarge`, and so is each write after it. What the writer below does not take has no part in the count.
+/// Hands writes on to a writer, as far as its room goes. A write that would pass that is refused whole, by an error of
+/// the kind `FileTooLarge`, and so is each write after it. What the writer below does not take has no part in the count.
 #[derive(Drop)]
 pub struct Limited<W> {
     inner: W,
@@ -17,7 +17,7 @@ pub struct Limited<W> {
 }
 
 impl<W> Limited<W> {
-    /// Over a writer, for so many bytes at most.
+    /// Over a writer, for `most` bytes.
     pub fn new(inner: W, most: u64) -> Limited<W>
         ensures inner { writer_of result ≡ inner }
         ensures room { room_of result ≡ Some most }

@@ -6,10 +6,10 @@ use std::cell::Cell;
 use std::io::Eprint;
 use std::time::{Clock, Instant};
 
-// Before so many milliseconds nothing is shown.
+// The milliseconds before anything is shown.
 const FIRST: u128 = 1000;
 
-// So many milliseconds stand between two lines.
+// The milliseconds between two lines.
 const BETWEEN: u128 = 500;
 
 // Goes up a line (`ESC [ A`, ECMA-48).
@@ -18,7 +18,7 @@ const UP: &str = "\x1b[A";
 // Goes to the front of the line, and takes away what stands there (`ESC [ K`).
 const CLEAR: &str = "\r\x1b[K";
 
-// A line has so many characters at most.
+// The most characters of a line.
 pub(crate) const WIDTH: usize = 48;
 
 /// The line of a terminal on which runs say how far they are, as all see it that write there. The cursor stands below
@@ -63,7 +63,7 @@ pub(crate) struct Line<'a, R> {
     terminal: &'a Terminal,
     /// None where nothing is to be shown.
     began: Option<Instant>,
-    /// The next text is due after so many milliseconds.
+    /// The milliseconds after which the next text is due.
     due: u128,
 }
 

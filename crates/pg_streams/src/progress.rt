@@ -56,7 +56,7 @@ struct Watch<'a, R> {
 }
 
 impl<R: Clock + Eprint> Watch<'_, R> {
-    // So many bytes more have passed by.
+    // `count` bytes more have passed by.
     fn pass(&mut self, count: usize) {
         self.bytes = self.bytes.saturating_add(count as u64);
         if self.line.is_due() {
@@ -72,7 +72,7 @@ pub struct Passing<'a, T, R> {
 }
 
 impl<'a, C: Read + Drop, R: Clock + Eprint> Passing<'a, FromRead<C>, R> {
-    /// A certificate that a reader gives, of so many bytes, where that is known.
+    /// A certificate that a reader gives, of `size` bytes, where that is known.
     pub fn new(
         rt: &'a R,
         terminal: &'a Terminal,

@@ -10,15 +10,15 @@ pub struct Room {
 }
 
 impl Room {
-    /// For so many bytes at most.
+    /// For `most` bytes.
     pub fn new(most: u64) -> Room
         ensures { left_of result ≡ Some most }
     {
         Room { left: Some(most) }
     }
 
-    /// Whether so many bytes more fit. Where they do, so many fewer are left; where they do not, it is full from then
-    /// on.
+    /// Whether `count` bytes more fit. Where they do, they are taken from what is left; where they do not, it is full
+    /// from then on.
     pub fn take(&mut self, count: usize) -> bool
         ensures left { IsLeftAfter (left_of self.old) count (left_of self.new) }
         ensures fits { IsTrue result ↔ IsSome (left_of self.new) }

@@ -11,7 +11,7 @@ use std::fmt::Write;
 use std::io::Eprint;
 use std::time::Clock;
 
-// The clock is asked once in so many turns of a search.
+// In how many turns of a search the clock is asked once.
 const TURNS: u32 = 1024;
 
 /// Shows how many games are counted.
@@ -64,7 +64,7 @@ pub struct SearchLine<'a, R> {
 }
 
 impl<'a, R: Clock + Eprint> SearchLine<'a, R> {
-    /// Of a search of so many nodes at most.
+    /// Of a search of `limit` nodes at most.
     pub fn new(rt: &'a R, terminal: &'a Terminal, limit: u64) -> SearchLine<'a, R> {
         SearchLine {
             line: Line::new(rt, terminal),

@@ -23,13 +23,13 @@ impl Trees {
         }
     }
 
-    // A tree has ended with so many nodes.
+    // A tree has ended with `nodes` nodes.
     fn end_tree(&mut self, nodes: u64) {
         let [_, second, third] = self.last;
         self.last = [second, third, nodes];
     }
 
-    // The tree of so many plies is at work, and so many nodes were visited in all. A tree that nobody told of was cut
+    // The tree of `plies` plies is at work, and `nodes` nodes were visited in all. A tree that nobody told of was cut
     // at its root, which tells nothing of the next.
     pub(crate) fn reach(&mut self, plies: u8, nodes: u64) {
         if plies != self.plies {

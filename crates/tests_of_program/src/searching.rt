@@ -1,29 +1,23 @@
-//! What a search tells: the games that it met, and what its trees may come to.
+//! What a search tells: the games that it met, and how far it came.
 
 use pg_moves::Unwatched;
-use pg_position::Move;
-use pg_san::read_games;
-use pg_searcher::SearchProgress;
-use pg_streams::Kept;
-use std::process::Abort;
-
-// Keeps the games of a text in their order, each told twice.
-fn kept<R: Abort + AllocGlobal>(rt: &R, text: &str) -> Kept<Unwatched> {
-    let games = read_games(rt.alloc(), text).expect(rt, text);
-    let mut kept = Kept::new(rt.alloc(), Unwatched, 100);
-    for at in 0..games.len() {
-        let game: &[Move] = games.game(at).unwrap_or(&[]);
-        kept.met(game);
-        kept.met(game);
-    }
-    kept
-}
+use pg_san::{Games, read_games};
+use pg_searcher::{Met, SearchProgress};
 
 #[test]
 fn games_that_are_kept(rt: HostRuntime) {
-    let mut kept = kept(&rt, "f3 e5 g4 Qh4#\ng4 e5 f3 Qh4#");
-    assert!(rt; kept.games.len() == 2 && !kept.is_short);
-    assert!(rt; kept.tree == 0 && kept.left == 100);
-    kept.reached(4, 7);
-    assert!(rt; kept.tree == 4 && kept.left == 7);
+    let text = "f3 e5 g4 Qh4#\ng4 e5 f3 Qh4#";
+    let told = read_games(rt.alloc(), text).expect(&rt, text);
+    let mut games = Games::new(rt.alloc());
+    let mut watch = Unwatched;
+    let mut met = Met::new(&mut watch, &mut games, 100);
+    assert!(rt; met.tree == 0 && met.left == 100);
+    for at in 0..told.len() {
+        let game = told.game(at).unwrap_or(&[]);
+        met.met(game);
+        met.met(game);
+    }
+    met.reached(4, 7);
+    assert!(rt; met.tree == 4 && met.left == 7 && !met.is_short);
+    assert!(rt; games.len() == 2);
 }

@@ -1,8 +1,9 @@
-//! What the tests of searches share: a diagram and a length, fields of a row, what is answered in words, where a game
-//! ends, and moves by chance.
+//! What the tests of searches share: a diagram and a length, fields of a row, what is answered in words, the bound by
+//! journeys, where a game ends, and moves by chance.
 
 use arrayvec::ArrayString;
 use pg_fen::{Diagram, Length};
+use pg_journeys::JourneysByMemory;
 use pg_moves::legal_moves;
 use pg_position::{Move, Position};
 use pg_san::{Games, read_games};
@@ -67,6 +68,15 @@ pub(crate) fn words(text: &impl Display) -> Said {
     let mut said = Said::new();
     let _ = write!(said, "{text}");
     said
+}
+
+// The bound by journeys to a diagram.
+pub(crate) fn journeys_to<R: Abort + AllocGlobal>(
+    rt: &R,
+    diagram: &Diagram,
+) -> Box<JourneysByMemory> {
+    let journeys = JourneysByMemory::new(rt.alloc(), diagram).expect(rt, "memory");
+    Box::new(rt.alloc(), journeys).expect(rt, "memory")
 }
 
 // The games that a text gives, of which a slash parts the lines.

@@ -1,7 +1,7 @@
 //! What a led search holds.
 
 use crate::budget::Budget;
-use crate::judge::{AskedJourneys, Judge};
+use crate::judge::{Asked, Judge};
 use crate::led::answer::Game;
 use crate::led::barren::Barren;
 use crate::led::familiar::Familiar;
@@ -13,12 +13,14 @@ use pg_moves::LegalMoves;
 use pg_position::{Move, Position};
 use pg_san::Games;
 
-// What is searched for: games to a diagram that are not in a list. A move that is not familiar is foreign.
+// What is searched for: games to a diagram that are not in a list. A move that is not familiar is foreign. Journeys may
+// be asked of nodes too.
 #[derive(Drop)]
 pub(crate) struct LedQuestion<'a> {
     pub(crate) diagram: &'a Diagram,
     pub(crate) games: &'a Games,
     pub(crate) familiar: &'a Familiar,
+    pub(crate) journeys: Option<Asked<'a>>,
 }
 
 impl LedQuestion<'_> {
@@ -91,14 +93,12 @@ pub(crate) enum Halt {
     Memory,
 }
 
-// What tells whether a node is gone into: what judges nodes, the barren ones, how many may still be visited, and
-// the bound by journeys, where it is asked too.
+// What tells whether a node is gone into: what judges nodes, the barren ones, and how many may still be visited.
 #[derive(Drop)]
 pub(crate) struct Sieve {
     pub(crate) judge: Judge,
     pub(crate) barren: Barren,
     pub(crate) budget: Budget,
-    pub(crate) journeys: Option<AskedJourneys>,
 }
 
 // The open nodes, the topmost last.

@@ -46,7 +46,13 @@ fn is_cut(verdict: Cutting) -> bool {
 // A node that no cut by other bounds or by prices excludes: barren where one of the same future was, with as many
 // foreign moves, or where journeys exclude, if they are asked. They are asked of the position and not of the key, which
 // has the passed square only where a capture there is legal.
-fn stay(sieve: &mut Sieve, position: &Position, sides: &Sides, allowance: Allowance) -> Entry {
+fn stay(
+    question: &LedQuestion,
+    sieve: &Sieve,
+    position: &Position,
+    sides: &Sides,
+    allowance: Allowance,
+) -> Entry {
     let key = node_key(
         sides.white.key,
         sides.black.key,
@@ -59,7 +65,7 @@ fn stay(sieve: &mut Sieve, position: &Position, sides: &Sides, allowance: Allowa
         Some(foreign) if foreign >= allowance.foreign => return Entry::Refused,
         _ => {}
     }
-    if is_cut_by_journeys(&mut sieve.journeys, position, allowance.left) {
+    if is_cut_by_journeys(question.journeys, position, allowance.left) {
         return Entry::Barren;
     }
     Entry::Opens(Open::new(position, sides, key, allowance.foreign))
@@ -78,7 +84,7 @@ pub(crate) fn enter(
     if is_cut(verdict) {
         Ok(Entry::Barren)
     } else {
-        Ok(stay(sieve, position, &sides, allowance))
+        Ok(stay(question, sieve, position, &sides, allowance))
     }
 }
 

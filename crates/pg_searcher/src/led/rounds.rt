@@ -1,17 +1,19 @@
 //! The rounds of a led search.
 
 use crate::budget::Budget;
-use crate::judge::{AskedJourneys, Judge};
+use crate::judge::{Asked, Judge};
 use crate::led::answer::{Game, Led, LedEnd, LedFault, LedLimits, LedProgress};
 use crate::led::barren::Barren;
 use crate::led::familiar::Familiar;
 use crate::led::machine::{Frames, Halt, LedMachine, LedQuestion, Sieve};
 use crate::led::walk::tree;
+use pg_captures::Bound;
 use pg_fen::{Diagram, Length};
+use pg_journeys::JourneysByMemory;
 use pg_san::Games;
 use std::alloc::{AllocError, Global};
 
-// The games with at most so many foreign moves: those of the stated length, then those of fewer plies.
+// The games with at most `foreign` foreign moves: those of the stated length, then those of fewer plies.
 fn round<P: LedProgress>(
     question: &LedQuestion,
     frames: &mut Frames,
@@ -65,18 +67,12 @@ fn rounds<P: LedProgress>(
     ran
 }
 
-// A machine that may visit so many nodes, which are cut by journeys too or not.
-fn machine_of(
-    alloc: Global,
-    diagram: &Diagram,
-    nodes: u64,
-    by_journeys: bool,
-) -> Result<LedMachine, AllocError> {
+// A machine that may visit `nodes` nodes.
+fn machine_of(alloc: Global, diagram: &Diagram, nodes: u64) -> Result<LedMachine, AllocError> {
     let sieve = Sieve {
         judge: Judge::new(alloc, diagram)?,
         barren: Barren::new(alloc),
         budget: Budget { nodes },
-        journeys: AskedJourneys::new(alloc, diagram, by_journeys)?,
     };
     Ok(LedMachine {
         sieve,
@@ -85,16 +81,23 @@ fn machine_of(
     })
 }
 
-// How far a led search goes: to games of so many plies at most, within limits, and whether nodes are cut by journeys
-// too.
+// How far a led search goes: to games of a length at most, within limits.
 #[derive(Clone, Copy)]
 struct Reach {
     length: Length,
     limits: LedLimits,
-    by_journeys: bool,
 }
 
-/// Looks for a game to the diagram beside those of a list: one of so many plies that is not in the list, or
+// The bound by journeys to a diagram.
+fn journeys_to(alloc: Global, diagram: &Diagram) -> Result<Box<JourneysByMemory>, AllocError> {
+    let journeys = JourneysByMemory::new(alloc, diagram)?;
+    match Box::new(alloc, journeys) {
+        Ok(journeys) => Ok(journeys),
+        Err(_) => Err(AllocError),
+    }
+}
+
+/// Looks for a game to the diagram beside those of a list: one of the stated length that is not in the list, or
 /// one of fewer plies. The games of the list lead: a move is familiar where a man of that kind and colour
 /// goes from that square to that square, and becomes the same, in one of them; else it is foreign. Games
 /// without foreign moves are looked for first, then those with one at most, and so on; in each round those of
@@ -123,12 +126,13 @@ pub fn search_led<P: LedProgress>(
     limits: LedLimits,
     watch: &mut P,
 ) -> Result<Led, LedFault> {
-    let reach = Reach {
-        length,
-        limits,
-        by_journeys: true,
+    let journeys: Box<dyn Bound> = match journeys_to(alloc, diagram) {
+        Ok(journeys) => journeys,
+        Err(_) => return Err(LedFault::Memory),
     };
-    led(alloc, diagram, games, &reach, watch)
+    let reach = Reach { length, limits };
+    let asked = Asked::of(diagram, &journeys);
+    led(alloc, diagram, games, &reach, Some(asked), watch)
 }
 
 /// As `search_led`, the same but for the cut by journeys, which it does not make: it visits more nodes, and each
@@ -144,20 +148,17 @@ pub fn search_led_without_journeys<P: LedProgress>(
     limits: LedLimits,
     watch: &mut P,
 ) -> Result<Led, LedFault> {
-    let reach = Reach {
-        length,
-        limits,
-        by_journeys: false,
-    };
-    led(alloc, diagram, games, &reach, watch)
+    let reach = Reach { length, limits };
+    led(alloc, diagram, games, &reach, None, watch)
 }
 
-// What a led search comes to.
+// What a led search comes to, which cuts by journeys too where they are asked.
 fn led<P: LedProgress>(
     alloc: Global,
     diagram: &Diagram,
     games: &Games,
     reach: &Reach,
+    journeys: Option<Asked<'_>>,
     watch: &mut P,
 ) -> Result<Led, LedFault> {
     let length = reach.length;
@@ -165,13 +166,14 @@ fn led<P: LedProgress>(
     let Ok(familiar) = Familiar::of(alloc, games) else {
         return Err(LedFault::Memory);
     };
-    let Ok(mut machine) = machine_of(alloc, diagram, limits.max_nodes, reach.by_journeys) else {
+    let Ok(mut machine) = machine_of(alloc, diagram, limits.max_nodes) else {
         return Err(LedFault::Memory);
     };
     let question = LedQuestion {
         diagram,
         games,
         familiar: &familiar,
+        journeys,
     };
     let most = limits.foreign.unwrap_or(length.plies());
     let mut frames = Frames::new();

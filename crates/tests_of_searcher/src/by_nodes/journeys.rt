@@ -2,7 +2,8 @@
 
 use super::*;
 use crate::by_nodes::searches::drawn_goal;
-use crate::shared::Goal;
+use crate::shared::{Goal, journeys_to};
+use pg_captures::Bound;
 use pg_certificate::ToWrite;
 use pg_moves::Unwatched;
 
@@ -10,8 +11,17 @@ use pg_moves::Unwatched;
 fn said<R: Abort + AllocGlobal>(rt: &R, goal: &Goal, nodes: u64) -> Said {
     let mut sink = ToWrite::new(Vec::new(rt.alloc()));
     let (diagram, length) = (&goal.diagram, goal.length);
-    let alloc = rt.alloc();
-    match search_by_journeys(alloc, diagram, length, nodes, &mut sink, &mut Unwatched) {
+    let journeys: Box<dyn Bound> = journeys_to(rt, diagram);
+    let bounds = [journeys];
+    match search_by_journeys(
+        rt.alloc(),
+        diagram,
+        length,
+        nodes,
+        &bounds,
+        &mut sink,
+        &mut Unwatched,
+    ) {
         Ok(games) => {
             let mut batch = Batch::new();
             batch.heard.hear_games(&games);

@@ -1,25 +1,26 @@
-//! Searches that cut by journeys too: how many nodes they visit, and that they find the games of those that do not.
+//! Searches that cut by journeys too: how many nodes they visit, that they find the games of those that do not, and
+//! which bound they ask.
 
 use super::bytes::WRITTEN;
 use super::found_games::are_same;
 use super::*;
-use pg_journeys::Journeys;
+use crate::shared::journeys_to;
 use pg_moves::Unwatched;
+use pg_trial::Never;
 
-// The four bounds and that by journeys; fewer where memory is refused.
-fn five_bounds(alloc: Global) -> Vec<Box<dyn Bound>> {
-    let mut bounds = four_bounds(alloc);
-    if let Ok(bound) = Box::new(alloc, Journeys) {
-        add(&mut bounds, bound);
-    }
+// The four bounds and that by journeys.
+fn five_bounds<R: Abort + AllocGlobal>(rt: &R, diagram: &Diagram) -> Vec<Box<dyn Bound>> {
+    let mut bounds = four_bounds(rt.alloc());
+    add(&mut bounds, journeys_to(rt, diagram));
     bounds
 }
 
-// What a search by journeys finds.
+// What a search finds that is lent these bounds.
 fn searched_by_journeys<W: Sink>(
     alloc: Global,
     goal: &Goal,
     nodes: u64,
+    bounds: &[Box<dyn Bound>],
     sink: &mut W,
 ) -> Result<Games, SearchFault> {
     search_by_journeys(
@@ -27,13 +28,14 @@ fn searched_by_journeys<W: Sink>(
         &goal.diagram,
         goal.length,
         nodes,
+        bounds,
         sink,
         &mut Unwatched,
     )
 }
 
 // The games that a search by journeys of so many nodes finds, and how many records its certificate has, by a check with
-// five bounds.
+// the five bounds that the search was lent.
 #[derive(Drop)]
 struct Settled {
     games: Games,
@@ -46,10 +48,10 @@ fn settled_by_journeys<R: Abort + AllocGlobal>(
     nodes: u64,
 ) -> Result<Settled, SearchFault> {
     let mut sink = ToWrite::new(Vec::new(rt.alloc()));
-    match searched_by_journeys(rt.alloc(), goal, nodes, &mut sink) {
+    let bounds = five_bounds(rt, &goal.diagram);
+    match searched_by_journeys(rt.alloc(), goal, nodes, &bounds, &mut sink) {
         Ok(games) => {
             let bytes = sink.into_inner();
-            let bounds = five_bounds(rt.alloc());
             let said = checked_by(rt.alloc(), goal, &games, &bounds, bytes.as_slice());
             let records = number(rt, said.as_str());
             Ok(Settled { games, records })
@@ -102,7 +104,10 @@ fn problems_are_settled_by_journeys_with_so_many_nodes(rt: HostRuntime) {
 // What a check of a certificate by journeys says that has no bound by journeys.
 fn checked_without<R: Abort + AllocGlobal>(rt: &R, goal: &Goal) -> Said {
     let mut sink = ToWrite::new(Vec::new(rt.alloc()));
-    let games = searched_by_journeys(rt.alloc(), goal, NODES, &mut sink).expect(rt, "found");
+    let bounds = five_bounds(rt, &goal.diagram);
+    let games = searched_by_journeys(rt.alloc(), goal, NODES, &bounds, &mut sink).expect(
+        rt, "found",
+    );
     let bytes = sink.into_inner();
     checked(rt.alloc(), goal, &games, bytes.as_slice())
 }
@@ -139,5 +144,51 @@ fn check_same<R: Abort + AllocGlobal>(rt: &R, row: &str) {
 fn the_same_games_are_found_by_journeys(rt: HostRuntime) {
     for row in WRITTEN.lines() {
         check_same(&rt, row);
+    }
+}
+
+// Bounds by the words of a list: that by journeys, or by its code one that never excludes.
+fn lent<R: Abort + AllocGlobal>(rt: &R, list: &str, diagram: &Diagram) -> Vec<Box<dyn Bound>> {
+    let mut bounds: Vec<Box<dyn Bound>> = Vec::new(rt.alloc());
+    for word in list.split(' ') {
+        if word == "journeys" {
+            add(&mut bounds, journeys_to(rt, diagram));
+        } else {
+            let code: u8 = word.parse().expect(rt, word);
+            let never = Box::new(rt.alloc(), Never::new(code)).expect(rt, "memory");
+            add(&mut bounds, never);
+        }
+    }
+    bounds
+}
+
+// Lists of bounds, and how many records the certificate has of a search that is lent them: as many as by journeys, or
+// as many as of a search that does not cut by them.
+const LENT: &str = "journeys => 647
+4 journeys 5 => 647
+5 journeys => 9198
+4 6 => 9198";
+
+fn check_lent<R: Abort + AllocGlobal>(rt: &R, goal: &Goal, row: &str) {
+    let (list, wanted) = halves(rt, row, " => ");
+    let mut sink = ToWrite::new(Vec::new(rt.alloc()));
+    let bounds = lent(rt, list, &goal.diagram);
+    let games = searched_by_journeys(rt.alloc(), goal, NODES, &bounds, &mut sink).expect(rt, list);
+    let bytes = sink.into_inner();
+    let bounds = five_bounds(rt, &goal.diagram);
+    let said = checked_by(rt.alloc(), goal, &games, &bounds, bytes.as_slice());
+    assert_eq!(rt; said.as_str(), wanted, "{list}");
+}
+
+// The first bound of code 5 is asked, and no other.
+#[test]
+fn a_search_asks_the_bound_that_it_is_lent(rt: HostRuntime) {
+    let goal = goal_of(
+        &rt,
+        "2bqr1k1/2pNppbp/1p5p/7n/1r1P4/8/P1P1PPPP/RNB1KBNR",
+        "9.0",
+    );
+    for row in LENT.lines() {
+        check_lent(&rt, &goal, row);
     }
 }

@@ -3,4 +3,4 @@ use Rattle.pg_searcher.proofs.led.walk.next_opened.Given as goal
 
 -- the node stays the same
 abbrev pub invariant-loop : goal.invariant-loop
-invariant-loop l = l.top.moves.position ≡ l.scene.position
+invariant-loop g l = l.top.moves.position ≡ l.scene.position
