@@ -12,7 +12,8 @@ use pg_guide::why;
 use pg_page::page;
 use pg_position::Move;
 use pg_report::{
-    Bound, Captures, Games, PawnFiles, Problem, Promotions, ToWrite, run_check, upgrade,
+    Bound, Captures, Games, Opened, PawnFiles, Promotions, Source, ToWrite, open, run_check,
+    upgrade,
 };
 use pg_travel::{Rows, TravelByRows};
 use std::alloc::Global;
@@ -22,7 +23,7 @@ const MOST: u64 = 60_000;
 
 const LEAST: usize = 4_000;
 
-// So many expanded nodes a page has at most: what the program takes.
+// How many expanded nodes a page has at most: what the program takes.
 const PAGE_NODES: u64 = 20_000;
 
 // A problem and its certificate, as texts and bytes that a stranger sends.
@@ -52,11 +53,11 @@ fn sent_of(alloc: Global, game: &Game, found: &Games, bytes: Vec<u8>) -> anyhow:
     })
 }
 
-// The problem that a stranger's texts spell.
-fn problem_of(sent: &Sent) -> Option<Problem> {
-    match Problem::read(sent.diagram.as_str(), sent.length.as_str()) {
-        Ok(problem) => Some(problem),
-        Err(_) => None,
+// A stranger's certificate, whose header is read.
+fn opened_from<S: Source>(source: &mut S) -> anyhow::Result<Opened> {
+    match open(source) {
+        Ok(opened) => Ok(opened),
+        Err(_) => Err(Fault::NoAnswer("open"))?,
     }
 }
 
@@ -94,16 +95,15 @@ fn explain_sent(
 ) -> anyhow::Result<()> {
     let mut moves = String::new(alloc);
     put_line(alloc, line, &mut moves)?;
-    let Some(problem) = problem_of(sent) else {
-        return Err(Fault::NoAnswer("problem"))?;
-    };
+    let mut source = FromRead::new(sent.bytes.as_slice());
+    let mut opened = opened_from(&mut source)?;
     let mut out = ToWrite::new(Vec::new(alloc));
     let answer = why(
         alloc,
-        &problem,
+        &mut opened,
         moves.as_str(),
         bounds,
-        &mut FromRead::new(sent.bytes.as_slice()),
+        &mut source,
         &mut out,
         RECORDS,
         MOST_NAMED,
@@ -121,16 +121,15 @@ fn show_sent(
     bounds: &[Box<dyn Bound>],
     digest: &mut Digest,
 ) -> anyhow::Result<()> {
-    let Some(problem) = problem_of(sent) else {
-        return Err(Fault::NoAnswer("problem"))?;
-    };
+    let mut source = FromRead::new(sent.bytes.as_slice());
+    let mut opened = opened_from(&mut source)?;
     let mut out = ToWrite::new(Vec::new(alloc));
     let answer = page(
         alloc,
-        &problem,
+        &mut opened,
         PAGE_NODES,
         bounds,
-        &mut FromRead::new(sent.bytes.as_slice()),
+        &mut source,
         &mut out,
         RECORDS,
         MOST_NAMED,
@@ -249,7 +248,7 @@ fn problem(
     }
 }
 
-// Problems until their certificates have so many bytes.
+// Problems until their certificates have `size` bytes.
 pub(crate) fn run(
     alloc: Global,
     dice: &mut Dice,

@@ -27,3 +27,14 @@ pub enum CooksRunFault {
     #[error("write fault")]
     Write,
 }
+
+/// Why games that are known are not written, the first of these that holds.
+#[derive(Clone, Copy, Debug, PartialEq, Eq, Error)]
+pub enum ListingFault {
+    /// A game of the list is no solution.
+    #[error("{0}")]
+    Listed(ListFault),
+    /// The sink has failed. How many bytes went out is not known.
+    #[error("write fault")]
+    Write,
+}

@@ -9,7 +9,7 @@ mod run;
 mod standing;
 mod writing;
 
-pub use fault::{CooksFault, CooksRunFault};
+pub use fault::{CooksFault, CooksRunFault, ListingFault};
 pub use finding::{CookAnswer, cooks};
 pub use laws::{not_sound_is_true, shorter_is_a_cook, two_are_a_cook, unlisted_is_a_cook};
 pub use run::{run_cooks, run_games, standing_on, write_solutions};

@@ -8,12 +8,12 @@ ghost use Rattle.pg_cooks.specs.Known.{IsListingFault};
 ghost use Rattle.pg_cooks.specs.Standing.{IsStanding, IsGamesReport};
 ghost use Rattle.pg_cooks.specs.Cooks.{IsCookAnswer, IsCooksReport, IsCooksRunFault, IsRefuted};
 
-use crate::fault::CooksRunFault;
+use crate::fault::{CooksRunFault, ListingFault};
 use crate::finding::{CookAnswer, cooks};
 use crate::standing::{Standing, standing_of};
 use crate::writing::{write_cooks, write_standing};
 use pg_certificate::Sink;
-use pg_checker::{Fault, ListFault, Problem, RunFault, check_listed};
+use pg_checker::{ListFault, Problem, check_listed};
 use pg_fen::{Diagram, Length};
 use pg_san::Games;
 use pg_searcher::{LedLimits, LedProgress};
@@ -28,13 +28,13 @@ use std::alloc::Global;
 /// games were tested.
 ///
 /// # Errors
-/// In this order: `Check` with `Listed` where a listed game is no solution, with the first of them and why, and then
-/// the sink is as it was; `Write` where the sink has failed.
+/// In this order: `Listed` where a listed game is no solution, with the first of them and why, and then the sink is as
+/// it was; `Write` where the sink has failed.
 pub fn run_games<W: Sink>(
     problem: &Problem,
     games: &Games,
     out: &mut W,
-) -> Result<Standing, RunFault>
+) -> Result<Standing, ListingFault>
     ensures ok { IfOk result (λ s. AreSolutions problem.now.diagram problem.now.length games.now
         × IsStanding games.now s
         × ((text : List ℕ) × IsGamesReport problem.now.diagram problem.now.length games.now text
@@ -42,15 +42,15 @@ pub fn run_games<W: Sink>(
     ensures runs { OnOk result ((W.has_failed out.old ≡ false) × (W.has_failed out.new ≡ false)) }
     ensures err { IfErr result (λ e. IsListingFault problem.now.diagram problem.now.length games.now
         (W.has_failed out.new) e) }
-    ensures unwritten { IfErr result (λ e. e ≢ RunFault.Write → out.new ≡ out.old) }
+    ensures unwritten { IfErr result (λ e. e ≢ ListingFault.Write → out.new ≡ out.old) }
 {
     match check_listed(&problem.diagram, problem.length, games) {
         Ok(()) => {}
-        Err(fault) => return Err(RunFault::Check(Fault::Listed(fault))),
+        Err(fault) => return Err(ListingFault::Listed(fault)),
     }
     match write_standing(&problem.diagram, problem.length, games, out) {
         Ok(standing) => Ok(standing),
-        Err(_) => Err(RunFault::Write),
+        Err(_) => Err(ListingFault::Write),
     }
 }
 
@@ -73,26 +73,26 @@ pub fn standing_on(diagram: &Diagram, length: Length, games: &Games) -> Result<S
 /// canonical order, each ended by a line feed. Takes no memory, and writes nothing before the games were tested.
 ///
 /// # Errors
-/// In this order: `Check` with `Listed` where a game is no solution, and then the sink is as it was; `Write` where the
-/// sink has failed.
+/// In this order: `Listed` where a game is no solution, and then the sink is as it was; `Write` where the sink has
+/// failed.
 pub fn write_solutions<W: Sink>(
     diagram: &Diagram,
     length: Length,
     games: &Games,
     out: &mut W,
-) -> Result<Standing, RunFault>
+) -> Result<Standing, ListingFault>
     ensures ok { IfOk result (λ s. AreSolutions diagram.now length games.now × IsStanding games.now s
         × ((text : List ℕ) × AreGameLines games.now text × Appends (W.held out.old) (W.held out.new) text)) }
     ensures err { IfErr result (λ e. IsListingFault diagram.now length games.now (W.has_failed out.new) e) }
-    ensures unwritten { IfErr result (λ e. e ≢ RunFault.Write → out.new ≡ out.old) }
+    ensures unwritten { IfErr result (λ e. e ≢ ListingFault.Write → out.new ≡ out.old) }
 {
     let standing = match standing_on(diagram, length, games) {
         Ok(standing) => standing,
-        Err(fault) => return Err(RunFault::Check(Fault::Listed(fault))),
+        Err(fault) => return Err(ListingFault::Listed(fault)),
     };
     match write_games(games, out) {
         Ok(()) => Ok(standing),
-        Err(_) => Err(RunFault::Write),
+        Err(_) => Err(ListingFault::Write),
     }
 }
 

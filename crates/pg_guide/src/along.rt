@@ -26,7 +26,7 @@ pub(crate) struct Line<'a> {
 // Where the check is: the moves that lead to the topmost open node, how many games it has met, how many it had met
 // before each open node, by the plies left there, and how many named nodes have closed.
 #[derive(Drop)]
-struct Place {
+struct Whereabouts {
     path: ArrayVec<Move, 128>,
     games: u64,
     before: [u64; 129],
@@ -39,7 +39,7 @@ struct Place {
 #[derive(Drop)]
 pub(crate) struct Along<'a> {
     pub(crate) line: Line<'a>,
-    place: Place,
+    place: Whereabouts,
     open: ArrayVec<Tally, 128>,
     pub(crate) tallies: ArrayVec<Tally, 128>,
     pub(crate) ending: Option<Ending>,
@@ -71,7 +71,7 @@ impl<'a> Along<'a> {
                 moves,
                 positions: positions_along(alloc, moves),
             },
-            place: Place {
+            place: Whereabouts {
                 path: ArrayVec::new(),
                 games: 0,
                 before: [0; 129],
@@ -223,7 +223,7 @@ fn name(along: &mut Along, position: &Position, left: u8) {
 
 // A node with so many plies left opens.
 #[inline(always)]
-fn open(place: &mut Place, m: &Option<Move>, left: u8) {
+fn open(place: &mut Whereabouts, m: &Option<Move>, left: u8) {
     if let Some(m) = m {
         let _ = place.path.try_push(*m);
     }
@@ -235,7 +235,7 @@ fn open(place: &mut Place, m: &Option<Move>, left: u8) {
 
 // How many games there are below the open node with so many plies left.
 #[inline(always)]
-fn games_below(place: &Place, left: u8) -> u64 {
+fn games_below(place: &Whereabouts, left: u8) -> u64 {
     match place.before.get(usize::from(left)) {
         Some(before) => place.games.saturating_sub(*before),
         None => 0,

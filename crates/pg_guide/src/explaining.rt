@@ -2,8 +2,9 @@
 ghost use Rattle.std.specs.Prelude.{◌≡◌, ◌≢◌, ◌⊎◌, true, false, length, IfOk, IfErr, OnOk};
 ghost use Rattle.pg_checker.specs.Answering.{HasAnswer, failures};
 ghost use Rattle.pg_checker.specs.Cuts.{any_rules_by, rules_by};
-ghost use Rattle.pg_certificate.specs.Pushing.{Grows};
+ghost use Rattle.pg_checker.specs.Opening.{bytes_of};
 ghost use Rattle.pg_checker.specs.Terms.{terms};
+ghost use Rattle.pg_certificate.specs.Pushing.{Grows};
 ghost use Rattle.pg_san.specs.Listing.{IsListing};
 ghost use Rattle.pg_guide.specs.Why.{AddsRight, IsLineFault, IsOneLine, IsTellingFault, IsWhyFault};
 
@@ -13,7 +14,7 @@ use crate::found::Found;
 use crate::writing::write_found;
 use pg_captures::Bound;
 use pg_certificate::{Record, Refused, Sink, Source};
-use pg_checker::{Problem, answer_watched};
+use pg_checker::{Opened, answer_opened};
 use pg_san::{Games, read_games};
 use pg_sentences::Ending;
 use std::alloc::Global;
@@ -82,15 +83,15 @@ fn tell_right<W: Sink>(along: &Along, out: &mut W) -> Result<(), WhyFault>
     }
 }
 
-/// Explains what a certificate of a problem says along a line of moves, and writes that: a line for each ply to where
-/// the line or the proof ends, and last `the certificate is right`. `moves` are those of one game from the initial
-/// array, in any spelling that a list of games reads; `-` for none. docs/FORMATS.md has the lines; no clause speaks of
-/// what they say, but of the last. Ok means that some list of games is the exact answer to the problem, that the
-/// certificate proves it, and that the last line stands. Nothing is written before the check has said yes, and with a
-/// refusal other than `Write` nothing at all.
+/// Explains what an opened certificate says along a line of moves, and writes that: a line for each ply to where the
+/// line or the proof ends, and last `the certificate is right`. `moves` are those of one game from the initial array,
+/// in any spelling that a list of games reads; `-` for none. docs/FORMATS.md has the lines; no clause speaks of what
+/// they say, but of the last. Ok means that some list of games is the exact answer to the problem of the header,
+/// that the certificate proves it, and that the last line stands. Nothing is written before the check has said yes, and
+/// with a refusal other than `Write` nothing at all.
 ///
-/// The certificate is read once, as `answer` reads it. The games, the named nodes and what is met along the line take
-/// their room from `alloc`; nothing else takes memory.
+/// The certificate is read once: `source` is the one that it was opened from, as that call left it. The games, the
+/// named nodes and what is met along the line take their room from `alloc`; nothing else takes memory.
 ///
 /// # Errors
 /// In this order: `Games` where the moves are refused as a list of games; `Moves` where they are not one game; `Answer`
@@ -98,7 +99,7 @@ fn tell_right<W: Sink>(along: &Along, out: &mut W) -> Result<(), WhyFault>
 /// node that ends the line, and `Write` where the sink has failed.
 pub fn why<R: Source, W: Sink>(
     alloc: Global,
-    problem: &Problem,
+    opened: &mut Opened,
     moves: &str,
     bounds: &[Box<dyn Bound>],
     source: &mut R,
@@ -107,21 +108,22 @@ pub fn why<R: Source, W: Sink>(
     max_named: u32,
 ) -> Result<(), WhyFault>
     ensures right { OnOk result (HasAnswer
-        (terms (rules_by code_of excluded bounds.now) max_records max_named (R.left source.old))
-        problem.now.diagram problem.now.length) }
+        (terms (rules_by code_of excluded bounds.now) max_records max_named (bytes_of opened.old (R.left source.old)))
+        opened.old.diagram opened.old.plies) }
     ensures line { OnOk result (IsOneLine moves.now) }
     ensures told { OnOk result (AddsRight (W.held out.old) (W.held out.new)) }
     ensures unwritten { IfErr result (λ e. e ≢ WhyFault.Write → out.new ≡ out.old) }
     ensures silent { (W.held out.new ≡ W.held out.old) ⊎ HasAnswer
-        (terms (rules_by code_of excluded bounds.now) max_records max_named (R.left source.old))
-        problem.now.diagram problem.now.length }
+        (terms (rules_by code_of excluded bounds.now) max_records max_named (bytes_of opened.old (R.left source.old)))
+        opened.old.diagram opened.old.plies }
     ensures runs { OnOk result (W.has_failed out.new ≡ false) }
     ensures err { IfErr result (IsWhyFault moves.now
-        (terms (rules_by code_of excluded bounds.now) max_records max_named (R.left source.old))
-        (terms (any_rules_by code_of excluded bounds.now) max_records max_named (R.left source.old))
-        problem.now.diagram problem.now.length
-        (failures (R.has_failed source.new) (W.has_failed out.new))) }
+        (terms (rules_by code_of excluded bounds.now) max_records max_named (bytes_of opened.old (R.left source.old)))
+        (terms (any_rules_by code_of excluded bounds.now) max_records max_named
+        (bytes_of opened.old (R.left source.old)))
+        opened.old.diagram opened.old.plies (failures (R.has_failed source.new) (W.has_failed out.new))) }
 {
+    let problem = opened.problem();
     let games = match line_of(alloc, moves) {
         Ok(games) => games,
         Err(fault) => return Err(fault),
@@ -129,11 +131,10 @@ pub fn why<R: Source, W: Sink>(
     let Some(line) = games.game(0) else {
         unreachable!()
     };
-    let mut along = Along::new(alloc, problem, line);
-    match answer_watched(
+    let mut along = Along::new(alloc, &problem, line);
+    match answer_opened(
         alloc,
-        &problem.diagram,
-        problem.length,
+        opened,
         bounds,
         source,
         &mut along,

@@ -43,11 +43,13 @@ fn search_once<S: Scratch, P: JudgeProgress>(
     ensures { IfOk result (λ r. IsFindingOf question.now.entry.now r.finding) }
 {
     let limit = limits.max_nodes;
+    let bounds = question.bounds;
     let first = Attempt {
         effort: Effort::Search,
         limit,
+        bounds,
     };
-    match attempt_once(alloc, question, first, scratch, games, watch) {
+    match attempt_once(alloc, question, &first, scratch, games, watch) {
         Ok(ruling) => return Ok(ruling),
         Err(stop) => {
             if !limits.by_journeys || games.len() >= 2 || stop.known.reason != Reason::Nodes {
@@ -58,8 +60,9 @@ fn search_once<S: Scratch, P: JudgeProgress>(
     let second = Attempt {
         effort: Effort::Journeys,
         limit,
+        bounds,
     };
-    attempt_once(alloc, question, second, scratch, games, watch)
+    attempt_once(alloc, question, &second, scratch, games, watch)
 }
 
 // Whether a search with a greater limit may follow one that gave up: not where two games are known.
@@ -148,15 +151,15 @@ fn ended(entry: &Entry<'_>, games: Games, stop: Stop, foreign: Option<u8>) -> Ru
 }
 
 /// Judges a problem. First, where the author's game solves it, a search led by it looks for another game or a shorter
-/// one, over at most a million nodes; where it finds one the problem is `NotSound`. Else searches of all games follow, of
-/// a million nodes, of ten times as many, and so on up to `limits`, each where the one before gave up, and each followed
-/// by one with cuts by journeys where `limits` say so and it gave up; what one has written to `scratch` is checked by
-/// these bounds, with the games that it found. With `Settled` those games are all that solve the problem, and no game of
-/// fewer plies ends on its diagram; what was checked stands in `scratch` then. With `NotSound` no list of one game is the
-/// answer: a shorter game was found, or one that is none of the author's, and tested; or two games at least are known
-/// and tested. No search is trusted for anything. With `NotSettled` nothing is claimed; there is no refusal, since want
-/// of memory and a scratch that refuses are among its reasons. What the searches grow by is taken from `alloc`; `watch`
-/// is told how far they are.
+/// one, over at most a million nodes; where it finds one the problem is `NotSound`. Else searches of all games follow,
+/// of a million nodes, of ten times as many, and so on up to `limits`, each where the one before gave up, and each
+/// followed by one that cuts by journeys too, by the first of these bounds of code 5, where `limits` say so and it gave
+/// up; what one has written to `scratch` is checked by these bounds, with the games that it found. With `Settled` those
+/// games are all that solve the problem, and no game of fewer plies ends on its diagram; what was checked stands in
+/// `scratch` then. With `NotSound` no list of one game is the answer: a shorter game was found, or one that is none of
+/// the author's, and tested; or two games at least are known and tested. No search is trusted for anything. With
+/// `NotSettled` nothing is claimed; there is no refusal, since want of memory and a scratch that refuses are among its
+/// reasons. What the searches grow by is taken from `alloc`; `watch` is told how far they are.
 pub fn judge<S: Scratch, P: JudgeProgress>(
     alloc: Global,
     entry: &Entry<'_>,

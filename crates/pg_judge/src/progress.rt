@@ -1,6 +1,7 @@
 //! Who is told how far a problem is judged.
 
 use pg_moves::Unwatched;
+use pg_searcher::SearchProgress;
 
 /// A search for the games of a problem.
 #[derive(Clone, Copy, Debug, PartialEq, Eq)]
@@ -13,19 +14,12 @@ pub enum Effort {
     Journeys,
 }
 
-/// Is told how far a problem is judged, and may end that. Nothing else that it does changes what is found.
-pub trait JudgeProgress {
-    /// A search begins, of so many nodes at most.
+/// Is told how far a problem is judged, and may end that. Nothing else that it does changes what is found. Whether it
+/// goes on it is asked before each search too that is longer than the one before; where it does not, that is as if the
+/// last limit of nodes was reached.
+pub trait JudgeProgress: SearchProgress {
+    /// A search begins, of `limit` nodes at most.
     fn begins(&mut self, _effort: Effort, _limit: u64) {}
-
-    /// Games of so many plies are looked for, and so many nodes more may be visited.
-    fn reached(&mut self, _plies: u8, _left: u64) {}
-
-    /// Whether the search goes on. It is asked each time after `reached`, and before each search that is longer than
-    /// the one before; where it does not, that is as if the last limit of nodes was reached.
-    fn goes_on(&mut self) -> bool {
-        true
-    }
 }
 
 impl JudgeProgress for Unwatched {}

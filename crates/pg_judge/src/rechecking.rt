@@ -4,11 +4,11 @@ ghost use Rattle.pg_judge.specs.Ruling.{IsFindingOf, unread};
 
 use crate::entry::Entry;
 use crate::ruling::{Finding, Known, Means, Reason, Ruling};
-use crate::searching::verdict_on;
 use pg_captures::Bound;
 use pg_certificate::Source;
 use pg_certificate::format::MOST_NAMED;
 use pg_checker::{Answer, AnswerFault, answer};
+use pg_texts::verdict_on;
 use std::alloc::Global;
 
 /// What a certificate of an entry's problem proves, by these bounds: its games are all that solve the problem, and no game of

@@ -1,10 +1,8 @@
 //! One search for the games of a problem, and the check of what it wrote.
-ghost use Rattle.std.specs.Prelude.{◌≡◌, ℕ, ◌<◌, length, IfOk, IfSome};
-ghost use Rattle.pg_texts.specs.Report.{IsVerdict};
+ghost use Rattle.std.specs.Prelude.{IfOk};
 ghost use Rattle.pg_judge.specs.Ruling.{IsFindingOf};
 
 use crate::entry::Entry;
-use crate::met::Met;
 use crate::progress::{Effort, JudgeProgress};
 use crate::ruling::{Finding, Known, Means, Reason, Ruling};
 use crate::scratch::Scratch;
@@ -15,8 +13,8 @@ use pg_certificate::{FromRead, ToWrite};
 use pg_checker::{Fault, Problem, check};
 use pg_fen::Length;
 use pg_san::Games;
-use pg_searcher::{SearchFault, search_by_journeys, search_watched};
-use pg_texts::Verdict;
+use pg_searcher::{Met, SearchFault, search_by_journeys, search_watched};
+use pg_texts::verdict_on;
 use std::alloc::Global;
 
 // An entry, and the bounds by which certificates of its problem are checked.
@@ -26,11 +24,13 @@ pub(crate) struct Question<'a> {
     pub(crate) bounds: &'a [Box<dyn Bound>],
 }
 
-// One search, and how many nodes it visits at most.
+// One search, how many nodes it visits at most, and the bounds by which its certificate is checked, of which it asks
+// that by journeys.
 #[derive(Clone, Copy)]
-pub(crate) struct Attempt {
+pub(crate) struct Attempt<'a> {
     pub(crate) effort: Effort,
     pub(crate) limit: u64,
+    pub(crate) bounds: &'a [Box<dyn Bound>],
 }
 
 // What a search came to: the games that it found, or why it has none; how many nodes it visited, as far as it told;
@@ -53,12 +53,16 @@ pub(crate) struct Stop {
 pub(crate) fn search_for<S: Scratch, P: JudgeProgress>(
     alloc: Global,
     problem: &Problem,
-    attempt: Attempt,
+    attempt: &Attempt<'_>,
     scratch: &mut S,
     games: &mut Games,
     watch: &mut P,
 ) -> Searched {
-    let Attempt { effort, limit } = attempt;
+    let Attempt {
+        effort,
+        limit,
+        bounds,
+    } = *attempt;
     if scratch.clear().is_err() {
         return Searched {
             found: Err(SearchFault::Write),
@@ -72,7 +76,7 @@ pub(crate) fn search_for<S: Scratch, P: JudgeProgress>(
     let (diagram, length) = (&problem.diagram, problem.length);
     let found = match effort {
         Effort::Journeys => {
-            search_by_journeys(alloc, diagram, length, limit, &mut sink, &mut met)
+            search_by_journeys(alloc, diagram, length, limit, bounds, &mut sink, &mut met)
         }
         Effort::Search | Effort::Cooks => {
             search_watched(alloc, diagram, length, limit, &mut sink, &mut met)
@@ -82,17 +86,6 @@ pub(crate) fn search_for<S: Scratch, P: JudgeProgress>(
         found,
         nodes: limit.saturating_sub(met.left),
         tree: met.tree,
-    }
-}
-
-// The verdict on a list of games.
-pub(crate) fn verdict_on(games: &Games) -> Verdict
-    ensures { IsVerdict games.now result }
-{
-    match games.len() {
-        0 => Verdict::NoGame,
-        1 => Verdict::Sound,
-        _ => Verdict::Cooked,
     }
 }
 
@@ -148,7 +141,7 @@ fn reason_of<S: Scratch>(fault: SearchFault, scratch: &S) -> Reason {
 fn search_anew<S: Scratch, P: JudgeProgress>(
     alloc: Global,
     problem: &Problem,
-    attempt: Attempt,
+    attempt: &Attempt<'_>,
     found: Result<Games, SearchFault>,
     scratch: &mut S,
     watch: &mut P,
@@ -168,7 +161,7 @@ fn search_anew<S: Scratch, P: JudgeProgress>(
 fn settled<S: Scratch, P: JudgeProgress>(
     alloc: Global,
     question: &Question<'_>,
-    attempt: Attempt,
+    attempt: &Attempt<'_>,
     found: Result<Games, SearchFault>,
     scratch: &mut S,
     watch: &mut P,
@@ -199,7 +192,7 @@ fn below(tree: u8) -> Option<Length> {
 pub(crate) fn attempt_once<S: Scratch, P: JudgeProgress>(
     alloc: Global,
     question: &Question<'_>,
-    attempt: Attempt,
+    attempt: &Attempt<'_>,
     scratch: &mut S,
     games: &mut Games,
     watch: &mut P,

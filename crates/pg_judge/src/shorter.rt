@@ -39,7 +39,7 @@ fn shorter<S: Scratch, P: JudgeProgress>(
     alloc: Global,
     problem: &Problem,
     plies: u8,
-    attempt: Attempt,
+    attempt: &Attempt<'_>,
     scratch: &mut S,
     watch: &mut P,
 ) -> Option<Game>
@@ -69,7 +69,7 @@ pub(crate) fn refuted<S: Scratch, P: JudgeProgress>(
     alloc: Global,
     entry: &Entry<'_>,
     plies: u8,
-    attempt: Attempt,
+    attempt: &Attempt<'_>,
     scratch: &mut S,
     watch: &mut P,
 ) -> Result<Finding, Reason>

@@ -31,7 +31,7 @@ pub(crate) struct Item {
 // Where the check is: the plies of the tree, how many of its nodes are expanded, how many games were met, how many
 // before each open node, by the plies left there, and how many named nodes have closed.
 #[derive(Drop)]
-struct Place {
+struct Whereabouts {
     tree: u8,
     expanded: u64,
     games: u64,
@@ -44,7 +44,7 @@ struct Place {
 #[derive(Drop)]
 pub(crate) struct Log {
     plies: u8,
-    place: Place,
+    place: Whereabouts,
     last: Floor,
     shorter: Floor,
     pub(crate) items: Vec<Item>,
@@ -107,7 +107,7 @@ impl Log {
     pub(crate) fn new(alloc: Global, problem: &Problem, nodes: u64) -> Log {
         Log {
             plies: problem.length.plies(),
-            place: Place {
+            place: Whereabouts {
                 tree: 0,
                 expanded: 0,
                 games: 0,

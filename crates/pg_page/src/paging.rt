@@ -3,6 +3,7 @@ ghost use Rattle.std.specs.Prelude.{◌≡◌, ◌⊎◌, false, true, IfErr, On
 ghost use Rattle.pg_certificate.specs.Pushing.{Grows, MayPush, Pushes};
 ghost use Rattle.pg_checker.specs.Answering.{HasAnswer, failures};
 ghost use Rattle.pg_checker.specs.Cuts.{any_rules_by, rules_by};
+ghost use Rattle.pg_checker.specs.Opening.{bytes_of};
 ghost use Rattle.pg_checker.specs.Terms.{terms};
 ghost use Rattle.pg_page.specs.Page.{AddsHead, has_journeys, IsPageFault, IsShowingFault, IsShown};
 
@@ -13,7 +14,7 @@ use crate::script::{SCRIPT, VIEWER};
 use crate::telling::tell;
 use pg_captures::Bound;
 use pg_certificate::{Refused, Sink, Source};
-use pg_checker::{Answer, Problem, answer_watched};
+use pg_checker::{Answer, Opened, Problem, answer_opened};
 use pg_sentences::phrases::{
     AFTER, AS, AT_THE_START, BARREN, CUT_BY, ELSEWHERE, EXCLUDED, SOLUTION, UNSEEN,
 };
@@ -156,22 +157,22 @@ fn write_page<W: Sink>(
     }
 }
 
-/// Checks a certificate of a problem, and writes a page that shows it: one file of HTML, which needs nothing else, with
-/// at most so many expanded nodes of the tree of the stated length, and of the shorter ones together. docs/FORMATS.md
-/// says what stands there. Ok means that some list of games is the exact answer to the problem, that the certificate
-/// proves it, and that the page begins with the head of just that answer: the diagram, the word `--journeys` where the
-/// bound by journeys is among those handed in, the verdict, what was checked, and each game. No clause speaks of what
-/// follows. Nothing is written before the check has said yes.
+/// Checks a certificate that was opened, and writes a page that shows it: one file of HTML, which needs nothing else,
+/// with at most `nodes` expanded nodes of the tree of the stated length, and of the shorter ones together.
+/// docs/FORMATS.md says what stands there. Ok means that some list of games is the exact answer to the problem of the
+/// header, that the certificate proves it, and that the page begins with the head of just that answer: the diagram,
+/// the word `--journeys` where the bound by journeys is among those handed in, the verdict, what was checked, and each
+/// game. No clause speaks of what follows. Nothing is written before the check has said yes.
 ///
-/// The certificate is read once, as `answer` reads it. The games, the named nodes and the lines of the trees take their
-/// room from `alloc`; nothing else takes memory.
+/// The certificate is read once: `source` is the one that it was opened from, as that call left it. The games, the
+/// named nodes and the lines of the trees take their room from `alloc`; nothing else takes memory.
 ///
 /// # Errors
 /// In this order: `Answer` where the certificate gives no answer, with its cause; and where it does, `Memory` where
 /// there was no room for the lines, and `Write` where the sink has failed.
 pub fn page<R: Source, W: Sink>(
     alloc: Global,
-    problem: &Problem,
+    opened: &mut Opened,
     nodes: u64,
     bounds: &[Box<dyn Bound>],
     source: &mut R,
@@ -180,27 +181,26 @@ pub fn page<R: Source, W: Sink>(
     max_named: u32,
 ) -> Result<(), PageFault>
     ensures right { OnOk result (HasAnswer
-        (terms (rules_by code_of excluded bounds.now) max_records max_named (R.left source.old))
-        problem.now.diagram problem.now.length) }
+        (terms (rules_by code_of excluded bounds.now) max_records max_named (bytes_of opened.old (R.left source.old)))
+        opened.old.diagram opened.old.plies) }
     ensures head { OnOk result (IsShown
-        (terms (rules_by code_of excluded bounds.now) max_records max_named (R.left source.old))
-        problem.now.diagram problem.now.length (has_journeys code_of bounds.now)
-        (W.held out.old) (W.held out.new)) }
+        (terms (rules_by code_of excluded bounds.now) max_records max_named (bytes_of opened.old (R.left source.old)))
+        opened.old.diagram opened.old.plies (has_journeys code_of bounds.now) (W.held out.old) (W.held out.new)) }
     ensures silent { (W.held out.new ≡ W.held out.old) ⊎ HasAnswer
-        (terms (rules_by code_of excluded bounds.now) max_records max_named (R.left source.old))
-        problem.now.diagram problem.now.length }
+        (terms (rules_by code_of excluded bounds.now) max_records max_named (bytes_of opened.old (R.left source.old)))
+        opened.old.diagram opened.old.plies }
     ensures runs { OnOk result (W.has_failed out.new ≡ false) }
     ensures err { IfErr result (IsPageFault
-        (terms (rules_by code_of excluded bounds.now) max_records max_named (R.left source.old))
-        (terms (any_rules_by code_of excluded bounds.now) max_records max_named (R.left source.old))
-        problem.now.diagram problem.now.length
-        (failures (R.has_failed source.new) (W.has_failed out.new))) }
+        (terms (rules_by code_of excluded bounds.now) max_records max_named (bytes_of opened.old (R.left source.old)))
+        (terms (any_rules_by code_of excluded bounds.now) max_records max_named
+        (bytes_of opened.old (R.left source.old)))
+        opened.old.diagram opened.old.plies (failures (R.has_failed source.new) (W.has_failed out.new))) }
 {
-    let mut log = Log::new(alloc, problem, nodes);
-    match answer_watched(
+    let problem = opened.problem();
+    let mut log = Log::new(alloc, &problem, nodes);
+    match answer_opened(
         alloc,
-        &problem.diagram,
-        problem.length,
+        opened,
         bounds,
         source,
         &mut log,
@@ -209,7 +209,7 @@ pub fn page<R: Source, W: Sink>(
     ) {
         Ok(answer) => {
             let by_journeys = has_journeys(bounds);
-            match write_page(problem, by_journeys, &answer, &mut log, out) {
+            match write_page(&problem, by_journeys, &answer, &mut log, out) {
                 Ok(()) => Ok(()),
                 Err(fault) => Err(fault),
             }

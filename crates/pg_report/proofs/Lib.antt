@@ -1,4 +1,3 @@
-pub mod NamingLemmas
 pub mod RunLemmas
 pub mod ShortestLemmas
 pub mod ShowLemmas

@@ -2,11 +2,13 @@
 use Rattle.std.proofs.Common.{ℕ, List}
 use Rattle.pg_board.specs.Placement.{Placement}
 use Rattle.pg_position.specs.declared.moves.Move.{Move}
-use Rattle.pg_checker.specs.declared.fault.RunFault.{RunFault}
-use Rattle.pg_checker.specs.declared.fault.RunFault.TheVariants.{Diagram, Length, Games, Check, Write}
+use Rattle.pg_report.specs.declared.fault.RunFault.{RunFault}
+use Rattle.pg_report.specs.declared.fault.RunFault.TheVariants.{Diagram, Length, Games, Check, Write}
+use Rattle.pg_checker.specs.declared.fault.ProblemFault.{ProblemFault}
+use Rattle.pg_checker.specs.declared.fault.ProblemFault.TheVariants as problem
 use Rattle.pg_checker.specs.ProblemText.{IsProblemFault}
 use Rattle.pg_checker.specs.Terms.{Terms}
-use Rattle.pg_report.specs.Run.{AreSpelled, Failures, IsCheckFault, IsOfTexts, IsRunFault, Texts}
+use Rattle.pg_report.specs.Run.{AreSpelled, Failures, IsCheckFault, IsOfTexts, IsRunFault, Texts, of_problem}
 
 pub refused_with : (asked : Texts) (t : Terms) (failed : Failures) (d : Placement) (n : ℕ) (list : List (List Move)) (e : RunFault)
     → AreSpelled asked.diagram asked.length asked.games d n list → IsCheckFault d n list t failed e → IsRunFault asked t failed e
@@ -17,12 +19,9 @@ refused_with asked t failed d n list (Check f) spelled h = (d, n, list, spelled,
 refused_with asked t failed d n list Write spelled h = (d, n, list, spelled, h)
 
 -- a refusal of the first two texts
-pub no_problem : (asked : Texts) (t : Terms) (failed : Failures) (e : RunFault) → IsProblemFault asked.diagram asked.length e → IsRunFault asked t failed e
-no_problem asked t failed (Diagram f) h = h
-no_problem asked t failed (Length f) h = h
-no_problem asked t failed (Games f) h = absurd h
-no_problem asked t failed (Check f) h = absurd h
-no_problem asked t failed Write h = absurd h
+pub no_problem : (asked : Texts) (t : Terms) (failed : Failures) (e : ProblemFault) → IsProblemFault asked.diagram asked.length e → IsRunFault asked t failed (of_problem e)
+no_problem asked t failed (problem.Diagram f) h = h
+no_problem asked t failed (problem.Length f) h = h
 
 -- what a check refuses does not lie in the texts
 pub not_of_texts : (d : Placement) (n : ℕ) (list : List (List Move)) (t : Terms) (failed : Failures) (e : RunFault) → IsCheckFault d n list t failed e → ¬ IsOfTexts e

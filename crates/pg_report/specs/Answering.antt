@@ -6,11 +6,19 @@ use Rattle.pg_checker.specs.Answer.{IsExactAnswer}
 use Rattle.pg_checker.specs.Answering.{AnswerAccepts, AnswerRefuses, AnswerTells, IsProvedBy}
 use Rattle.pg_checker.specs.Terms.{Terms}
 use Rattle.pg_checker.specs.declared.certify.Answer.{Answer as Answered}
+use Rattle.pg_checker.specs.declared.fault.AnswerFault.TheVariants.{Check}
+use Rattle.pg_checker.specs.declared.fault.OpenFault.{OpenFault}
+use Rattle.pg_checker.specs.declared.fault.OpenFault.TheVariants as opening
 use Rattle.pg_texts.specs.Report.{IsReport, IsVerdict}
 use Rattle.pg_texts.specs.declared.verdict.Verdict.{Verdict}
 use Rattle.pg_report.specs.Run.{Failures}
 use Rattle.pg_report.specs.declared.fault.AnswerRunFault.{AnswerRunFault}
 use Rattle.pg_report.specs.declared.fault.AnswerRunFault.TheVariants.{NoProblem, Answer, Write}
+
+-- why a certificate is not opened, as why it has no report
+abbrev pub of_opening : OpenFault → AnswerRunFault
+of_opening (opening.Header fault) = Answer (Check fault)
+of_opening opening.NoProblem = NoProblem
 
 -- these games are the exact answer, and the known bytes are a certificate for them
 abbrev pub IsProvedAnswer : Terms → Placement → ℕ → Answered → Type 0

@@ -5,5 +5,4 @@ pub mod Sides
 pub mod Within
 pub mod Showing
 pub mod Expecting
-pub mod Naming
 pub mod Answering

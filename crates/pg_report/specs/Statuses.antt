@@ -14,8 +14,8 @@ use Rattle.pg_texts.specs.declared.fault.MovesFault.{MovesFault}
 use Rattle.pg_texts.specs.declared.fault.MovesFault.TheVariants as moving
 use Rattle.pg_texts.specs.declared.fault.CountRunFault.{CountRunFault}
 use Rattle.pg_texts.specs.declared.fault.CountRunFault.TheVariants as numbering
-use Rattle.pg_checker.specs.declared.fault.RunFault.{RunFault}
-use Rattle.pg_checker.specs.declared.fault.RunFault.TheVariants as running
+use Rattle.pg_report.specs.declared.fault.RunFault.{RunFault}
+use Rattle.pg_report.specs.declared.fault.RunFault.TheVariants as running
 use Rattle.pg_checker.specs.declared.fault.AnswerFault.TheVariants as answer
 use Rattle.pg_report.specs.declared.fault.AnswerRunFault.{AnswerRunFault}
 use Rattle.pg_report.specs.declared.fault.AnswerRunFault.TheVariants as answering

@@ -6,7 +6,7 @@ ghost use Rattle.pg_report.specs.Expecting.{IsExpected, IsOpen, expected_text, e
 ghost use Rattle.pg_report.specs.Expecting.{rounded, digit_text, unit_text};
 ghost use Rattle.pg_report.specs.Expecting.{by_journeys, captured_men, free_men};
 
-use crate::within::Known;
+use crate::within::Findings;
 use pg_board::Color;
 use pg_captures::all_men;
 use pg_certificate::{Refused, Sink};
@@ -27,7 +27,7 @@ pub(crate) struct Expected {
 const MOST_SPARE: u8 = 4;
 
 // Whether nothing is known against games of a length, and the least length is shorter by few plies at most.
-fn is_open(length: &Length, known: &Known) -> bool
+fn is_open(length: &Length, known: &Findings) -> bool
     ensures { IsTrue result → IsOpen length.now known.now.facts known.now.least }
 {
     match known.least {
@@ -85,7 +85,7 @@ fn is_tenfold(hundredths: u32, other: u16) -> bool
 pub(crate) fn expected_of(
     alloc: Global,
     diagram: &Diagram,
-    known: &Known,
+    known: &Findings,
 ) -> Result<Option<Expected>, AllocError>
     ensures { IfOk result (λ o. IsExpected diagram.now known.now.asked known.now.facts known.now.least o) }
 {

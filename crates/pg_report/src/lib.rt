@@ -6,7 +6,6 @@ mod answering;
 mod expecting;
 mod fault;
 mod lengths;
-mod naming;
 mod run;
 mod showing;
 mod sides;
@@ -14,9 +13,8 @@ mod statuses;
 mod within;
 
 pub use answering::run_answer;
-pub use fault::{AnswerRunFault, ShowFault};
+pub use fault::{AnswerRunFault, RunFault, ShowFault};
 pub use lengths::shortest;
-pub use naming::{problem_of, read_problem};
 pub use run::{run_check, run_listed};
 pub use showing::run_show;
 pub use statuses::{
@@ -27,7 +25,7 @@ pub use statuses::{
 // Names of the crates below: the program takes most of these from here, and others from where they stand.
 pub use pg_captures::{Bound, Captures, Promotions};
 pub use pg_certificate::{FromRead, Refused, Sink, Source, ToWrite, WriteFault};
-pub use pg_checker::{AnswerFault, Fault, Problem, RunFault, check};
+pub use pg_checker::{AnswerFault, Fault, OpenFault, Opened, Problem, ProblemFault, check, open};
 pub use pg_fen::{Diagram, FenFault, Length, LengthFault};
 pub use pg_moves::{CountFault, CountProgress, Unwatched};
 pub use pg_pawns::PawnFiles;

@@ -11,9 +11,10 @@ ghost use Rattle.pg_checker.specs.declared.certify.Proved.{Proved};
 ghost use Rattle.pg_texts.specs.Report.{IsVerdict, IsReport};
 ghost use Rattle.pg_report.specs.Run.{AreSpelled, IsCheckFault, IsOfTexts, IsRunFault, failures};
 
+use crate::fault::RunFault;
 use pg_captures::Bound;
 use pg_certificate::{Sink, Source};
-use pg_checker::{Problem, RunFault, check};
+use pg_checker::{Problem, check};
 use pg_fen::{Diagram, Length};
 use pg_san::{Games, read_games};
 use pg_texts::{Verdict, write_report};
@@ -112,7 +113,7 @@ pub fn run_check<R: Source, W: Sink>(
 {
     let problem = match Problem::read(diagram, length) {
         Ok(problem) => problem,
-        Err(fault) => return Err(fault),
+        Err(fault) => return Err(RunFault::of_problem(fault)),
     };
     let games = match read_games(alloc, games) {
         Ok(games) => games,

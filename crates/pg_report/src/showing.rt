@@ -17,7 +17,7 @@ use crate::expecting::{Expected, expected_of, write_expected};
 use crate::fault::ShowFault;
 use crate::lengths::{Offers, first_open, offers_of};
 use crate::sides::{Need, Reason, need_of};
-use crate::within::{Known, facts_within, name_of, write_known};
+use crate::within::{Findings, facts_within, name_of, write_known};
 use pg_board::Color;
 use pg_captures::{Bound, all_men, plies_left, victims_of};
 use pg_certificate::{Refused, Sink};
@@ -178,7 +178,7 @@ fn write_open<W: Sink>(least: Option<Length>, out: &mut W) -> Result<(), Refused
 // What is known, and what may be expected of a search.
 #[derive(Clone, Copy)]
 struct Below {
-    known: Known,
+    known: Findings,
     expected: Option<Expected>,
 }
 
@@ -258,7 +258,7 @@ pub fn run_show<W: Sink>(
         Ok(black) => black,
         Err(AllocError) => return Err(ShowFault::Memory),
     };
-    let known = Known {
+    let known = Findings {
         asked,
         facts: facts_within(diagram, &asked),
         least: first_open(bounds, diagram, &white, &black),

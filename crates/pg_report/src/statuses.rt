@@ -4,8 +4,8 @@ ghost use Rattle.pg_report.specs.Statuses.{verdict_status, games_status, check_s
 ghost use Rattle.pg_report.specs.Statuses.{answer_status_of, moves_status_of, count_status_of, show_status_of};
 ghost use Rattle.pg_report.specs.Statuses.{upgrade_status_of};
 
-use crate::fault::{AnswerRunFault, ShowFault};
-use pg_checker::{AnswerFault, Fault, RunFault};
+use crate::fault::{AnswerRunFault, RunFault, ShowFault};
+use pg_checker::{AnswerFault, Fault};
 use pg_moves::CountFault;
 use pg_san::GamesFault;
 use pg_searcher::SearchFault;

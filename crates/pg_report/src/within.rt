@@ -26,14 +26,14 @@ pub(crate) enum Naming {
 // What is asked of a diagram, and what is known of the games that end on it: facts about those of the length that
 // is asked, and the least length.
 #[derive(Clone, Copy)]
-pub(crate) struct Known {
+pub(crate) struct Findings {
     pub(crate) asked: Option<Length>,
     pub(crate) facts: Option<Facts>,
     pub(crate) least: Option<Length>,
 }
 
 // More squares than these, on which captures may land, are not named.
-const MOST_NAMED: u8 = 8;
+const MOST_SQUARES: u8 = 8;
 
 // What the bound by journeys knows of the games of the length that is asked.
 pub(crate) fn facts_within(diagram: &Diagram, asked: &Option<Length>) -> Option<Facts>
@@ -162,7 +162,7 @@ fn write_captures<W: Sink>(lands: SquareSet, out: &mut W) -> Result<(), Refused>
     let count = lands.len();
     if count == 0 {
         out.push(b"captures nothing")
-    } else if count <= MOST_NAMED {
+    } else if count <= MOST_SQUARES {
         write_landing(lands, out)
     } else {
         Ok(())
@@ -186,7 +186,7 @@ fn write_joint<W: Sink>(lands: SquareSet, stays: SquareSet, out: &mut W) -> Resu
     ensures { MayPush W.held W.has_failed
         (Adds (cond (are_few (has lands) && are_some (has stays)) (codes "; ") [])) out.old out.new result }
 {
-    if lands.len() <= MOST_NAMED && stays.len() > 0 {
+    if lands.len() <= MOST_SQUARES && stays.len() > 0 {
         out.push(b"; ")
     } else {
         Ok(())
@@ -211,7 +211,7 @@ fn write_line<W: Sink>(
 ) -> Result<(), Refused>
     ensures { MayPush W.held W.has_failed (Adds (known_line color (has lands) (has stays))) out.old out.new result }
 {
-    if lands.len() <= MOST_NAMED || stays.len() > 0 {
+    if lands.len() <= MOST_SQUARES || stays.len() > 0 {
         out.push(name_of(color).as_bytes())?;
         write_said(lands, stays, out)?;
         out.push(b"\n")

@@ -19,4 +19,4 @@ pub use moves::run_moves;
 pub use movetext::write_movetext;
 pub use report::{write_game, write_games, write_head, write_line, write_report};
 pub use upgrading::upgrade;
-pub use verdict::Verdict;
+pub use verdict::{Verdict, verdict_on};

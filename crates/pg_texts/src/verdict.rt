@@ -15,8 +15,8 @@ pub enum Verdict {
     NoGame,
 }
 
-// The verdict on a list of games.
-pub(crate) fn verdict_on(games: &Games) -> Verdict
+/// What a list of games amounts to, where it has all the games to a diagram: that is for the caller to know.
+pub fn verdict_on(games: &Games) -> Verdict
     ensures { IsVerdict games.now result }
 {
     match games.len() {

@@ -7,7 +7,7 @@ mod refusals;
 
 use crate::shared::{
     MANY, Said, bounds_for, certificate, diagram_of, field, halves, length_of, lines_of,
-    problem_of, text_of, told, words,
+    opened_for, problem_of, text_of, told, unopened, words,
 };
 use pg_captures::Bound;
 use pg_certificate::format::MOST_NAMED;
@@ -17,7 +17,7 @@ use std::alloc::Global;
 use std::process::Abort;
 
 // What is answered with the four bounds, or with journeys as a fifth where the row ends so, by a reading of the
-// certificate. A diagram, a length and moves are asked.
+// certificate. The row has the diagram and the length that the certificate is for, and moves.
 fn explain<R: Abort + AllocGlobal, S: Source, W: Sink>(
     rt: &R,
     asked: &str,
@@ -27,9 +27,13 @@ fn explain<R: Abort + AllocGlobal, S: Source, W: Sink>(
     let bounds = bounds_for(rt, field(asked, 5));
     let problem = problem_of(rt, field(asked, 0), field(asked, 1));
     let moves = field(asked, 2);
+    let mut opened = match opened_for(rt, &problem, source) {
+        Ok(opened) => opened,
+        Err(fault) => return unopened(fault),
+    };
     told(&why(
         rt.alloc(),
-        &problem,
+        &mut opened,
         moves,
         &bounds,
         source,

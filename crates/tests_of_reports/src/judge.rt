@@ -10,6 +10,7 @@ mod standing;
 use crate::shared::{five_bounds, text_of};
 use pg_certificate::ToWrite;
 use pg_judge::*;
+use pg_searcher::SearchProgress;
 use std::io::Cursor;
 use std::process::Abort;
 

@@ -6,7 +6,8 @@ mod refusals;
 mod trees;
 
 use crate::shared::{
-    MANY, Said, bounds_for, certificate, field, halves, lines_of, problem_of, text_of, told,
+    MANY, Said, bounds_for, certificate, field, halves, lines_of, opened_for, problem_of, text_of,
+    told, unopened,
 };
 use pg_certificate::format::MOST_NAMED;
 use pg_certificate::{FromRead, Sink, Source, ToWrite};
@@ -14,7 +15,7 @@ use pg_page::*;
 use std::process::Abort;
 
 // What is answered with the four bounds, or with journeys as a fifth where the row ends so, by a reading of the
-// certificate. A diagram, a length and a number of nodes are asked.
+// certificate. The row has the diagram and the length that the certificate is for, and a number of nodes.
 fn show<R: Abort + AllocGlobal, S: Source, W: Sink>(
     rt: &R,
     asked: &str,
@@ -24,9 +25,13 @@ fn show<R: Abort + AllocGlobal, S: Source, W: Sink>(
     let bounds = bounds_for(rt, field(asked, 5));
     let problem = problem_of(rt, field(asked, 0), field(asked, 1));
     let nodes = field(asked, 2).parse::<u64>().expect(rt, asked);
+    let mut opened = match opened_for(rt, &problem, source) {
+        Ok(opened) => opened,
+        Err(fault) => return unopened(fault),
+    };
     told(&page(
         rt.alloc(),
-        &problem,
+        &mut opened,
         nodes,
         &bounds,
         source,

@@ -18,12 +18,13 @@ mod upgrades;
 
 use crate::shared::{
     MANY, Said, certificate, diagram_of, field, five_bounds, four_bounds, halves, length_of,
-    lines_of, named, text_of, told, words,
+    lines_of, named, problem_of, text_of, told, unopened, words,
 };
 use pg_certificate::format::MOST_NAMED;
+use pg_checker::answer as answer_for;
 use pg_cooks::{
-    CookAnswer, CooksFault, CooksRunFault, LedLimits, Standing, run_cooks as find_cooks,
-    run_games as test_games,
+    CookAnswer, CooksFault, CooksRunFault, LedLimits, ListingFault, Standing,
+    run_cooks as find_cooks, run_games as test_games,
 };
 use pg_position::Move;
 use pg_report::*;
@@ -109,39 +110,50 @@ fn check<R: Abort + AllocGlobal, S: Source, W: Sink>(
     told(&answer)
 }
 
-// The problem of a row, or that of its certificate's header where the command is `answer`.
-fn problem_for<R: Abort + AllocGlobal>(rt: &R, asked: &str) -> Result<Problem, AnswerRunFault> {
-    if field(asked, 0) == "answer" {
-        return read_problem(&mut FromRead::new(bytes_of(rt, asked).as_slice()));
-    }
-    Ok(Problem {
-        diagram: diagram_of(rt, field(asked, 1)),
-        length: length_of(rt, field(asked, 2)),
-    })
-}
-
-// What is answered to a certificate without a list.
+// What is answered to a certificate without a list, for the problem of its header.
 fn answer<R: Abort + AllocGlobal, S: Source, W: Sink>(
     rt: &R,
-    asked: &str,
     limit: u64,
     source: &mut S,
     out: &mut W,
 ) -> Said {
-    let problem = match problem_for(rt, asked) {
-        Ok(problem) => problem,
-        Err(fault) => return words(&format_args!("{fault:?}: {fault}")),
+    let mut opened = match open(source) {
+        Ok(opened) => opened,
+        Err(fault) => return unopened(fault),
     };
     let bounds = four_bounds(rt);
     told(&run_answer(
         rt.alloc(),
-        &problem,
+        &mut opened,
         &bounds,
         source,
         out,
         limit,
         MOST_NAMED,
     ))
+}
+
+// How many games a certificate answers to the problem of a row, or why it answers none.
+fn answer_to<R: Abort + AllocGlobal, S: Source>(
+    rt: &R,
+    asked: &str,
+    limit: u64,
+    source: &mut S,
+) -> Said {
+    let problem = problem_of(rt, field(asked, 1), field(asked, 2));
+    let bounds = four_bounds(rt);
+    match answer_for(
+        rt.alloc(),
+        &problem.diagram,
+        problem.length,
+        &bounds,
+        source,
+        limit,
+        MOST_NAMED,
+    ) {
+        Ok(answer) => words(&answer.games.len()),
+        Err(fault) => words(&format_args!("{fault:?}: {fault}")),
+    }
 }
 
 // A problem, and a list of games for it.
@@ -156,7 +168,7 @@ fn listed_by(alloc: Global, texts: [&str; 3]) -> Result<Listed, RunFault> {
     let [diagram, length, games] = texts;
     let problem = match Problem::read(diagram, length) {
         Ok(problem) => problem,
-        Err(fault) => return Err(fault),
+        Err(fault) => return Err(RunFault::of_problem(fault)),
     };
     match read_games(alloc, games) {
         Ok(games) => Ok(Listed { problem, games }),
@@ -211,7 +223,7 @@ fn show<R: Abort + AllocGlobal, W: Sink>(
     told(&run_show(rt.alloc(), &problem.diagram, asked, &bounds, out))
 }
 
-// Limits of so many nodes, and so many foreign moves: three where it is not told.
+// Limits of nodes and of foreign moves: three of these where it is not told.
 fn led_limits(nodes: u64, foreign: &str) -> LedLimits {
     LedLimits {
         max_nodes: nodes,
@@ -236,7 +248,8 @@ fn obey<R: Abort + AllocGlobal, S: Source, W: Sink>(
     let plies = number.parse().unwrap_or(0);
     let limit = limit.parse().unwrap_or(MANY);
     match command {
-        "answer" | "answer-to" => answer(rt, asked, limit, source, out),
+        "answer" => answer(rt, limit, source, out),
+        "answer-to" => answer_to(rt, asked, limit, source),
         "board" => told(&write_board(&diagram_of(rt, text), out)),
         "count" => told(&run_count(rt.alloc(), text, plies, out)),
         "games" => games(rt, [text, number, list], out),
@@ -355,7 +368,7 @@ fn check_write<R: Abort + AllocGlobal>(rt: &R, asked: &str, bytes: &[u8], at: u6
     );
 }
 
-// Each of so many writes fails in turn, and the next one, which is not made.
+// Each of the writes fails in turn, and the next one, which is not made.
 fn check_writes<R: Abort + AllocGlobal>(
     rt: &R,
     asked: &str,

@@ -3,10 +3,12 @@
 
 use arrayvec::ArrayString;
 use pg_captures::{Bound, Captures, Promotions};
-use pg_checker::Problem;
+use pg_certificate::Source;
+use pg_checker::{OpenFault, Opened, Problem, open};
 use pg_fen::{Diagram, Length};
 use pg_journeys::Journeys;
 use pg_pawns::PawnFiles;
+use pg_report::AnswerRunFault;
 use pg_travel::Travel;
 use pg_trial::append_spelled;
 use std::fmt::{Debug, Display, Write};
@@ -104,6 +106,26 @@ pub(crate) fn told<T: Debug, E: Debug + Display>(answer: &Result<T, E>) -> Said 
         Ok(value) => words(&format_args!("{value:?}")),
         Err(fault) => words(&format_args!("{fault:?}: {fault}")),
     }
+}
+
+// The certificate that a source gives, which is one of this problem.
+pub(crate) fn opened_for<S: Source>(
+    rt: &impl Abort,
+    problem: &Problem,
+    source: &mut S,
+) -> Result<Opened, OpenFault> {
+    let opened = match open(source) {
+        Ok(opened) => opened,
+        Err(fault) => return Err(fault),
+    };
+    assert!(rt; opened.problem() == *problem);
+    Ok(opened)
+}
+
+// What is answered where a certificate is not opened.
+pub(crate) fn unopened(fault: OpenFault) -> Said {
+    let fault = AnswerRunFault::of_opening(fault);
+    words(&format_args!("{fault:?}: {fault}"))
 }
 
 // The bytes that a text spells.

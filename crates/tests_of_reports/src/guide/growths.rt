@@ -1,7 +1,7 @@
 //! Explanations that are refused memory.
 
 use super::*;
-use pg_checker::{AnswerFault, Fault};
+use pg_checker::{AnswerFault, Fault, open};
 use pg_san::GamesFault;
 use pg_trial::{Counted, named_expansions};
 
@@ -10,15 +10,16 @@ const AFTER_E4_E5: &str = "rnbqkbnr/pppp1ppp/8/4p3/4P3/8/PPPP1PPP/RNBQKBNR";
 // The answer to e4 e5 by a certificate of 22 named expansions, and how many bytes were written.
 fn named_run(rt: &impl Abort, alloc: Global) -> (Result<(), WhyFault>, usize) {
     let bytes = named_expansions(&diagram_of(rt, AFTER_E4_E5));
-    let problem = problem_of(rt, AFTER_E4_E5, "1.0");
+    let mut source = FromRead::new(bytes.as_slice());
+    let mut opened = open(&mut source).expect(rt, "a problem");
     let bounds: Vec<Box<dyn Bound>> = Vec::new(alloc);
     let mut out = ToWrite::new(Counted::new());
     let answer = why(
         alloc,
-        &problem,
+        &mut opened,
         "e4",
         &bounds,
-        &mut FromRead::new(bytes.as_slice()),
+        &mut source,
         &mut out,
         MANY,
         22,

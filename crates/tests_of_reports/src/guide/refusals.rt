@@ -50,15 +50,15 @@ fn references_that_do_not_hold(rt: HostRuntime) {
     check_table(&rt, REFERENCES);
 }
 
-// What is refused is not explained: records that are no certificate of e4, and the header of
-// another problem, of e4 in two plies.
+// What is refused is not explained: records that are no certificate of e4; one of e4 in two plies; and a header of half
+// a move more than 64.0, which names no problem.
 const WRONG: &str =
     "after-e4 | 0.5 | e4 | 2 after-e4 0.5 |  => Answer(Check(Truncated)): truncated certificate
 after-e4 | 0.5 | e4 | 2 after-e4 0.5 | 02 => Answer(Check(Truncated)): truncated certificate
 after-e4 | 0.5 | e4 | 2 after-e4 0.5 | 0101 => Answer(Check(Trailing)): bytes after the certificate
 after-e4 | 0.5 | e4 | 2 after-e4 0.5 | 04 => Answer(Check(UnknownRecord(4))): unknown record byte 4
-after-e4 | 0.5 | - | 1 after-e4 1.0 | 01*22 => Answer(Check(OtherLength)): certificate for another length
-after-e4-e5 | 1.0 | - | 1 after-e4 1.0 | 01*22 => Answer(Check(OtherDiagram)): certificate for another diagram";
+after-e4 | 1.0 | - | 1 after-e4 1.0 | 01*22 => Answer(Check(Shorter(1))): a game of 1 plies reaches the diagram
+array | 64.0 | - |  | 50474331 81 24533642 11111111 00*16 99999999 acdbbeca => NoProblem: certificate for no problem";
 
 #[test]
 fn certificates_that_are_refused(rt: HostRuntime) {
@@ -70,7 +70,7 @@ const EXPANDED: &str = "after-e4-e5 | 1.0 | e4 d5 | 1 after-e4-e5 1.0 | 01*22";
 // How many writes the explanation of e4 d5 takes: one for each of its three lines, and one for the last.
 const WRITES: u64 = 4;
 
-// This is answered where one write fails, after so many calls.
+// This is answered where one write fails, after this number of calls.
 fn check_write<R: Abort + AllocGlobal>(rt: &R, bytes: &[u8], at: u64, answer: &str, calls: u64) {
     let mut out = ToWrite::new(FailsAt::new(Vec::new(rt.alloc()), at, ErrorKind::Other));
     let said = explain_bytes(rt, EXPANDED, bytes, &mut out);

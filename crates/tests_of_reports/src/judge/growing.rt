@@ -15,7 +15,9 @@ impl JudgeProgress for Hasty {
     fn begins(&mut self, effort: Effort, limit: u64) {
         let _ = write!(self.said, "{effort:?} {limit}, ");
     }
+}
 
+impl SearchProgress for Hasty {
     fn reached(&mut self, _plies: u8, _left: u64) {
         self.is_told = true;
     }

@@ -95,6 +95,10 @@ struct Begun {
     said: ArrayString<256>,
 }
 
+impl SearchProgress for Begun {
+    fn reached(&mut self, _plies: u8, _left: u64) {}
+}
+
 impl JudgeProgress for Begun {
     fn begins(&mut self, effort: Effort, limit: u64) {
         let _ = write!(self.said, "{effort:?} {limit}, ");

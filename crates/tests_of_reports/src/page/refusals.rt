@@ -4,14 +4,14 @@ use super::*;
 use pg_trial::FailsAt;
 use std::io::ErrorKind;
 
-// Of certificates that are refused nothing is written.
+// Of certificates that are refused nothing is written; the last header names no problem.
 const REFUSED: &str =
     "after-e4 | 0.5 | 9 | 2 after-e4 0.5 |  => Answer(Check(Truncated)): truncated certificate
 after-e4 | 0.5 | 9 | 2 after-e4 0.5 | 0101 => Answer(Check(Trailing)): bytes after the certificate
 after-e4 | 0.5 | 9 | 2 after-e4 0.5 | 0204 => Answer(Check(CutFails(4))): cut 4 does not exclude
 after-e4 | 0.5 | 9 | 2 after-e4 0.5 | 0300000000 => Answer(Check(RefUnknown)): reference to no closed node
 after-e4 | 1.0 | 9 | 2 after-e4 1.0 | 01*22 => Answer(Check(Shorter(1))): a game of 1 plies reaches the diagram
-after-e4 | 0.5 | 9 | 1 after-e4 1.0 | 01*22 => Answer(Check(OtherLength)): certificate for another length";
+array | 64.0 | 9 |  | 50474331 81 24533642 11111111 00*16 99999999 acdbbeca => NoProblem: certificate for no problem";
 
 // This is answered, and nothing is written.
 fn check_refused<R: Abort + AllocGlobal>(rt: &R, row: &str) {

@@ -43,7 +43,7 @@ fn refusals_without_a_list(rt: HostRuntime) {
 }
 
 // A header of the array in 64.0, and in half a move more; with a number that is no man's; with another king, and
-// without one; with a pawn on the first rank. Then certificates for another length and another diagram.
+// without one; with a pawn on the first rank. Then certificates for another length and another diagram than are asked.
 const HEADERS: &str =
     "answer |  |  |  |  |  | 50474331 80 24533642 11111111 00*16 99999999 acdbbeca => \
     Answer(Check(Shorter(0))): a game of 0 plies reaches the diagram
@@ -58,9 +58,9 @@ answer |  |  |  |  |  | 50474331 00 24533642 11111111 00*15 06 99999999 acdbbeca
     NoProblem: certificate for no problem
 answer |  |  |  |  |  | 50474331 00 24533642 11111111 00*16 99999999 acdbb0ca => NoProblem: certificate for no problem
 answer |  |  |  |  |  | 50474331 00 24533611 11111111 00*16 99999999 acdbbeca => NoProblem: certificate for no problem
-answer-to | after-e4 | 1.0 |  |  | 1 after-e4 0.5 | 01 => Answer(Check(OtherLength)): certificate for another length
+answer-to | after-e4 | 1.0 |  |  | 1 after-e4 0.5 | 01 => Check(OtherLength): certificate for another length
 answer-to | after-e4-e5 | 0.5 |  |  | 1 after-e4 0.5 | 01 => \
-    Answer(Check(OtherDiagram)): certificate for another diagram";
+    Check(OtherDiagram): certificate for another diagram";
 
 #[test]
 fn headers(rt: HostRuntime) {

@@ -68,11 +68,11 @@ fn refused_growths_of_a_check(rt: HostRuntime) {
 // The answer to the same certificate without a list.
 fn named_answer(rt: &impl Abort, alloc: Global) -> (Result<Verdict, AnswerRunFault>, usize) {
     let bytes = named_expansions(&diagram_of(rt, AFTER_E4_E5));
-    let problem = read_problem(&mut FromRead::new(bytes.as_slice())).expect(rt, "a problem");
     let bounds: Vec<Box<dyn Bound>> = Vec::new(alloc);
     let mut source = FromRead::new(bytes.as_slice());
+    let mut opened = open(&mut source).expect(rt, "a problem");
     let mut out = ToWrite::new(Counted::new());
-    let answer = run_answer(alloc, &problem, &bounds, &mut source, &mut out, MANY, 22);
+    let answer = run_answer(alloc, &mut opened, &bounds, &mut source, &mut out, MANY, 22);
     (answer, out.into_inner().bytes())
 }
 

@@ -1,9 +1,11 @@
 use Rattle.std.proofs.Common.{inr, subst}
-use Rattle.std.specs.Prelude.{Bool}
+use Rattle.std.specs.Prelude.{Bool, ℕ}
+use Rattle.pg_board.specs.Placement.{Placement}
 use Rattle.pg_checker.specs.Cuts.{any_rules_by, rules_by}
+use Rattle.pg_checker.specs.Opening.{bytes_of}
 use Rattle.pg_checker.specs.Terms.{terms}
 use Rattle.pg_checker.specs.Answering.{failures}
-use Rattle.pg_page.specs.Page.{AddsHead}
+use Rattle.pg_page.specs.Page.{AddsHead, has_journeys}
 use Rattle.pg_page.proofs.PageLemmas.{unshown}
 use Rattle.pg_page.proofs.paging.page.Goals as goal
 
@@ -18,7 +20,13 @@ returns-in-Ok-write_page-clause-head g c = (
   c.in-Ok.answer,
   c.in-Ok.ensures.headline,
   c.in-Ok.ensures.accepted,
-  subst (λ (b : Bool). AddsHead c.args.problem.now.diagram c.args.problem.now.length b c.in-Ok.answer (g.W.Sink.held c.args.out.now) (g.W.Sink.held c.write_page.new.out)) c.has_journeys-by_journeys.ensures c.in-Ok-write_page.ensures.head,
+  subst (λ (d : Placement). AddsHead d c.args.opened.now.plies (has_journeys (λ b. (goal.Bound-dyn g (b.vtable, b.value)).code_of b.value) c.args.bounds.now) c.in-Ok.answer
+      (g.W.Sink.held c.args.out.now) (g.W.Sink.held c.write_page.new.out)) c.problem-problem.ensures.diagram
+      (subst (λ (n : ℕ). AddsHead c.problem-problem.result.diagram n (has_journeys (λ b. (goal.Bound-dyn g (b.vtable, b.value)).code_of b.value) c.args.bounds.now) c.in-Ok.answer
+      (g.W.Sink.held c.args.out.now) (g.W.Sink.held c.write_page.new.out)) c.problem-problem.ensures.length
+      (subst (λ (b : Bool). AddsHead c.problem-problem.result.diagram c.problem-problem.result.length b c.in-Ok.answer
+      (g.W.Sink.held c.args.out.now) (g.W.Sink.held c.write_page.new.out)) c.has_journeys-by_journeys.ensures
+      c.in-Ok-write_page.ensures.head)),
 )
 
 pub returns-in-Ok-write_page-clause-silent : goal.returns-in-Ok-write_page-clause-silent
@@ -29,7 +37,15 @@ returns-in-Ok-clause-silent g c = inr (c.in-Ok.answer, c.in-Ok.ensures.headline,
 
 pub returns-in-Ok-clause-err : goal.returns-in-Ok-clause-err
 returns-in-Ok-clause-err g c = unshown
-    (terms (rules_by (λ b. (goal.Bound-dyn g (b.vtable, b.value)).code_of b.value) (λ b. (goal.Bound-dyn g (b.vtable, b.value)).excluded b.value) c.args.bounds.now) c.args.max_records c.args.max_named (g.R.Source.left c.args.source.now))
-    (terms (any_rules_by (λ b. (goal.Bound-dyn g (b.vtable, b.value)).code_of b.value) (λ b. (goal.Bound-dyn g (b.vtable, b.value)).excluded b.value) c.args.bounds.now) c.args.max_records c.args.max_named (g.R.Source.left c.args.source.now))
-    c.args.problem.now.diagram c.args.problem.now.length (failures (g.R.Source.has_failed c.answer_watched.new.source) (g.W.Sink.has_failed c.write_page.new.out)) c.in-Err-write_page.fault
-    (c.in-Ok.answer, c.in-Ok.ensures.headline, c.in-Ok.ensures.accepted) c.in-Err-write_page.ensures.err
+    (terms
+    (rules_by (λ b. (goal.Bound-dyn g (b.vtable, b.value)).code_of b.value)
+    (λ b. (goal.Bound-dyn g (b.vtable, b.value)).excluded b.value) c.args.bounds.now)
+    c.args.max_records c.args.max_named (bytes_of c.args.opened.now (g.R.Source.left c.args.source.now)))
+    (terms
+    (any_rules_by (λ b. (goal.Bound-dyn g (b.vtable, b.value)).code_of b.value)
+    (λ b. (goal.Bound-dyn g (b.vtable, b.value)).excluded b.value) c.args.bounds.now)
+    c.args.max_records c.args.max_named (bytes_of c.args.opened.now (g.R.Source.left c.args.source.now)))
+    c.args.opened.now.diagram c.args.opened.now.plies (failures (g.R.Source.has_failed c.answer_opened.new.source) (g.W.Sink.has_failed c.write_page.new.out))
+    c.in-Err-write_page.fault
+    (c.in-Ok.answer, c.in-Ok.ensures.headline, c.in-Ok.ensures.accepted)
+    c.in-Err-write_page.ensures.err
