@@ -412,7 +412,10 @@ for both in 'check $queen 2.0 - - <good.pgc' 'check $queen 2.0 - <good.pgc' 'che
   [ "${both#*0 games}" = "$both" ] || said=games
   expect 4 "pg: cannot open $said" "\"\$pg\" $both"
 done
-expect 4 'pg: cannot open -' 'cat good.pgc | "$pg" why - -'
+expect 0 '' 'cat good.pgc | "$pg" answer - | cmp - report'
+expect 0 '' 'cat good.pgc | "$pg" why - - | tail -n 1' 'the certificate is right'
+expect 0 '' 'cat good.pgc | "$pg" page - | cmp - <("$pg" page good.pgc)'
+expect 4 'pg: read fault' '"$pg" answer - <&-'
 expect 4 'pg: cannot open -' '"$pg" search $queen 2.0 new.pgc --games -' ''
 expect 4 'pg: read fault' '"$pg" check $queen 2.0 good.pgc - <&-'
 
@@ -429,6 +432,7 @@ expect 1 'pg: too many named nodes' '"$pg" check $unreachable 64.0 <(endless lon
 expect 1 'pg: unknown record byte 6' '"$pg" check $unreachable 64.0 <(endless long.pgc "\6") empty'
 expect 1 'pg: bytes after the certificate' '"$pg" check $queen 2.0 <(cat good.pgc; endless good.pgc "\1") games'
 expect 1 'pg: bytes after the certificate' '"$pg" check $first 0.5 <(header $first 1; yes x | tr -d "\n" | tr x "\1") <(echo e4)'
+expect 1 'pg: record limit reached' '"$pg" answer <(endless long.pgc "\1") --records 1000'
 expect 1 'pg: record limit reached' '"$pg" upgrade <(endless old.pgc "\1") new.pgc --records 1000'
 
 # Files that are not to be written, and one that is two at once.
@@ -447,11 +451,11 @@ expect 4 'pg: cannot open none' '"$pg" check $queen 2.0 good.pgc none'
 expect 4 'pg: cannot open none' '"$pg" upgrade none new.pgc'
 expect 4 'pg: cannot open none' '"$pg" upgrade none old.pgc'
 expect 4 'pg: cannot open none' '"$pg" answer none'
-expect 4 "pg: cannot open $work/fifo" '"$pg" answer "$work/fifo"'
+expect 0 '' '"$pg" answer "$work/fifo" < <(cat good.pgc >"$work/fifo") | cmp - report'
 expect 4 'pg: cannot open none' '"$pg" why none -'
-expect 4 "pg: cannot open $work/fifo" '"$pg" why "$work/fifo" -'
+expect 1 'pg: not a certificate' '"$pg" why <(yes) -'
 expect 4 'pg: cannot open none' '"$pg" page none'
-expect 4 "pg: cannot open $work/fifo" '"$pg" page "$work/fifo"'
+expect 1 'pg: truncated certificate' '"$pg" page <(head -c 36 good.pgc)'
 
 # Drafts that killed runs have left: the next number is taken, and with a thousand of them there is no search. Rights are kept, and no
 # setuid or setgid bit. A name of 255 bytes has a draft too.

@@ -1,14 +1,14 @@
 -- What is so of the status of an answer, or of its refusal, by what else is so of it.
 use Rattle.std.proofs.Common.{◌≡◌, ◌≢◌, ◌∙◌, ℕ, Bool, true, ap, subst, sym}
 use Rattle.std.specs.Prelude.{Result, Ok, Err, IfOk, IfErr, OnOk}
-use Rattle.pg_checker.specs.declared.fault.RunFault.{RunFault}
-use Rattle.pg_checker.specs.declared.fault.RunFault.TheVariants.{Write}
 use Rattle.pg_files.specs.declared.faults.FileFault.{FileFault}
 use Rattle.pg_files.specs.declared.faults.FileFault.TheVariants as file
 use Rattle.pg_guide.specs.declared.fault.WhyFault.{WhyFault}
 use Rattle.pg_guide.specs.declared.fault.WhyFault.TheVariants.{Write as WhyWrite}
 use Rattle.pg_report.specs.declared.fault.AnswerRunFault.{AnswerRunFault}
 use Rattle.pg_report.specs.declared.fault.AnswerRunFault.TheVariants.{Write as ReportWrite}
+use Rattle.pg_report.specs.declared.fault.RunFault.{RunFault}
+use Rattle.pg_report.specs.declared.fault.RunFault.TheVariants.{Write}
 use Rattle.pg_cli.specs.Refusals.{file_refusal}
 use Rattle.pg_cli.specs.Runs.{IsOfFile, IsOfSink, why_refusal}
 use Rattle.pg_cli.specs.declared.refusals.Named.{Named}

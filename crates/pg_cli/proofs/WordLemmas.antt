@@ -12,26 +12,39 @@ use Rattle.pg_fen.specs.DiagramText.{diagram_of}
 use Rattle.pg_fen.specs.Lengths.{length_of}
 use Rattle.pg_searcher.specs.declared.fault.SearchFault.{SearchFault}
 use Rattle.pg_searcher.specs.declared.fault.SearchFault.TheVariants as search
-use Rattle.pg_san.specs.Listing.{IsListing}
 use Rattle.pg_checker.specs.ProblemText.{IsProblemFault}
 use Rattle.pg_checker.specs.Terms.{Terms}
-use Rattle.pg_checker.specs.declared.fault.Fault.TheVariants.{Listed as Unfit}
-use Rattle.pg_checker.specs.declared.fault.RunFault.{RunFault}
-use Rattle.pg_checker.specs.declared.fault.RunFault.TheVariants.{Check as CheckFault}
+use Rattle.pg_checker.specs.declared.fault.ProblemFault.{ProblemFault}
+use Rattle.pg_checker.specs.declared.fault.ProblemFault.TheVariants as problem
 use Rattle.pg_cooks.specs.Known.{IsListingFault}
-use Rattle.pg_report.specs.Run.{AreSpelled, Failures, IsRunFault}
-use Rattle.pg_cli.specs.Runs.{AreListed, AreMet, IsCheckRefusal, IsFoundRefusal, IsGivenUp, IsSearchRefusal, search_refusal}
+use Rattle.pg_cooks.specs.declared.fault.ListingFault.{ListingFault}
+use Rattle.pg_cooks.specs.declared.fault.ListingFault.TheVariants as listing
+use Rattle.pg_report.specs.Run.{Failures, of_problem}
+use Rattle.pg_report.specs.declared.fault.RunFault.{RunFault}
+use Rattle.pg_report.specs.declared.fault.RunFault.TheVariants.{Check as CheckFault}
+use Rattle.pg_cli.specs.Refusals.{listing_refusal}
+use Rattle.pg_cli.specs.Runs.{AreMet, IsFoundRefusal, IsGivenUp, IsOfProblem, IsSearchRefusal, search_refusal}
 use Rattle.pg_cli.specs.Words.{spelled, IsNumber, IsSpelled}
-use Rattle.pg_cli.specs.declared.refusals.Known.{Known}
+use Rattle.pg_cli.specs.declared.refusals.Reached.{Reached}
 use Rattle.pg_cli.specs.declared.refusals.Refusal.{Refusal}
 use Rattle.pg_cli.specs.declared.refusals.Refusal.TheVariants.{Check}
 
 -- two texts that are no problem are the words DIAGRAM and LENGTH
-pub no_problem : (rows : List Row) (diagram length : List ℕ) (fault : RunFault) → diagram ≡ spelled (codes "DIAGRAM") rows
+words_are_none : (rows : List Row) (diagram length : List ℕ) (fault : ProblemFault) → diagram ≡ spelled (codes "DIAGRAM") rows
     → length ≡ spelled (codes "LENGTH") rows → IsProblemFault diagram length fault
     → IsProblemFault (spelled (codes "DIAGRAM") rows) (spelled (codes "LENGTH") rows) fault
-no_problem rows diagram length fault e f h =
+words_are_none rows diagram length fault e f h =
     subst (λ (x : List ℕ). IsProblemFault x (spelled (codes "LENGTH") rows) fault) e (subst (λ (y : List ℕ). IsProblemFault diagram y fault) f h)
+
+refused_so : (rows : List Row) (fault : ProblemFault)
+    → IsProblemFault (spelled (codes "DIAGRAM") rows) (spelled (codes "LENGTH") rows) fault → IsOfProblem rows (Check (of_problem fault))
+refused_so rows (problem.Diagram fault) h = h
+refused_so rows (problem.Length fault) h = h
+
+pub no_problem : (rows : List Row) (diagram length : List ℕ) (fault : ProblemFault) (run : RunFault) → diagram ≡ spelled (codes "DIAGRAM") rows
+    → length ≡ spelled (codes "LENGTH") rows → IsProblemFault diagram length fault → run ≡ of_problem fault → IsOfProblem rows (Check run)
+no_problem rows diagram length fault run e f h same = subst (λ (x : RunFault). IsOfProblem rows (Check x)) (sym same)
+    (refused_so rows fault (words_are_none rows diagram length fault e f h))
 
 -- what a text is read as, the word that it is, is read as
 pub is_read : {A : Type 0} (read : List ℕ → A) (text word : List ℕ) (r : A) → text ≡ word → r ≡ read text → read word ≡ r
@@ -40,31 +53,6 @@ is_read read text word r e h = ap read (sym e) ∙ sym h
 pub is_spelled : (rows : List Row) (diagram length : List ℕ) (d : Placement) (n : ℕ) → diagram ≡ spelled (codes "DIAGRAM") rows
     → length ≡ spelled (codes "LENGTH") rows → diagram_of (fields diagram) ≡ Ok d → length_of length ≡ Ok n → IsSpelled rows d n
 is_spelled rows diagram length d n e f g h = (ap (λ (x : List ℕ). diagram_of (fields x)) (sym e) ∙ g, ap (λ (x : List ℕ). length_of x) (sym f) ∙ h)
-
--- a text of games, by the bytes that are given
-pub listed : (rows : List Row) (text given : List ℕ) (d : Placement) (n : ℕ) (list : List (List Move)) → text ≡ given
-    → IsSpelled rows d n → IsListing text list → AreListed rows given d n list
-listed rows text given d n list e w h =
-    record { diagram_is = w.0; length_is = w.1; games_are = subst (λ (t : List ℕ). IsListing t list) e h }
-
--- the texts of a diagram, of a length and of games, by the words and the bytes that they are
-pub are_listed : (rows : List Row) (diagram length games given : List ℕ) (d : Placement) (n : ℕ) (list : List (List Move))
-    → diagram ≡ spelled (codes "DIAGRAM") rows → length ≡ spelled (codes "LENGTH") rows → games ≡ given
-    → AreSpelled diagram length games d n list → AreListed rows given d n list
-are_listed rows diagram length games given d n list e f g h =
-    subst (λ (x : List ℕ). AreSpelled x (spelled (codes "LENGTH") rows) given d n list) e
-    (subst (λ (y : List ℕ). AreSpelled diagram y given d n list) f
-    (subst (λ (z : List ℕ). AreSpelled diagram length z d n list) g h))
-
--- the words and the bytes are refused for the reason for which those texts are
-pub texts_refused : (t : Terms) (rows : List Row) (diagram length games given : List ℕ) (failed : Failures) (fault : RunFault)
-    → diagram ≡ spelled (codes "DIAGRAM") rows → length ≡ spelled (codes "LENGTH") rows → games ≡ given
-    → IsRunFault (record { diagram = diagram; length = length; games = games }) t failed fault
-    → IsCheckRefusal rows given t failed (Check fault)
-texts_refused t rows diagram length games given failed fault e f g h =
-    subst (λ (x : List ℕ). IsRunFault (record { diagram = x; length = spelled (codes "LENGTH") rows; games = given }) t failed fault) e
-    (subst (λ (y : List ℕ). IsRunFault (record { diagram = diagram; length = y; games = given }) t failed fault) f
-    (subst (λ (z : List ℕ). IsRunFault (record { diagram = diagram; length = length; games = z }) t failed fault) g h))
 
 -- the text of a word, from what `clap` gives for its name
 pub word_given : (f : Found) (name : Text) (text : List ℕ) → Some text ≡ first_value f name → text ≡ spelled name (rows_of f)
@@ -106,7 +94,7 @@ flag_missing f name wanted e =
     (λ h. absurd (let z : false ≡ true = h in cc), λ g. absurd (let z : None ≡ Some wanted = word_or_none f name None e ∙ g in cc))
 
 -- a search that gives up has no report
-pub given_up : (d : Placement) (n : ℕ) (fault : SearchFault) (known : Known) → IsGivenUp n fault → AreMet d n known
+pub given_up : (d : Placement) (n : ℕ) (fault : SearchFault) (known : Reached) → IsGivenUp n fault → AreMet d n known
     → IsSearchRefusal d n (search_refusal fault known)
 given_up d n search.Budget known h k = (tt, k)
 given_up d n (search.Shorter fewer) known h k = (h, k)
@@ -123,8 +111,7 @@ unfound d n list t failed (Err (Check fault)) h = tt
 unfound d n list t failed (Err r) h = absurd h
 
 -- or where a game that it met is not written as a solution
-pub unlisted : (d : Placement) (n : ℕ) (list : List (List Move)) (failed : Bool) (fault : RunFault) → IsListingFault d n list failed fault
-    → IsSearchRefusal d n (Check fault)
-unlisted d n list failed (CheckFault (Unfit fault)) h = ([], tt)
-unlisted d n list failed (CheckFault fault) h = absurd h
-unlisted d n list failed fault h = tt
+pub unlisted : (d : Placement) (n : ℕ) (list : List (List Move)) (failed : Bool) (refusal : Refusal) (fault : ListingFault)
+    → refusal ≡ listing_refusal fault → IsListingFault d n list failed fault → IsSearchRefusal d n refusal
+unlisted d n list failed refusal (listing.Listed fault) e h = subst (λ (r : Refusal). IsSearchRefusal d n r) (sym e) ([], tt)
+unlisted d n list failed refusal listing.Write e h = subst (λ (r : Refusal). IsSearchRefusal d n r) (sym e) tt

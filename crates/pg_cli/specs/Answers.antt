@@ -1,30 +1,26 @@
--- What the status of a check or a search says, where it comes with a report; and what files give.
-use Rattle.std.specs.Prelude.{◌≡◌, ◌↔◌, ℕ, List, Option, IfSome, IsFalse, codes}
+-- What the status of a check or a search says, where it comes with a report; what files give, and of which problem it is.
+use Rattle.std.specs.Prelude.{◌≡◌, ◌↔◌, ℕ, List, Option, Result, Ok, Err, IfSome, IsFalse, codes}
 use Rattle.either.specs.Either.{either, is_left}
 use Rattle.either.specs.declared.Either.{Either}
 use Rattle.clap.specs.Words.{Text}
 use Rattle.pg_board.specs.Placement.{Placement}
 use Rattle.pg_position.specs.declared.moves.Move.{Move}
 use Rattle.pg_checker.specs.Answer.{IsExactAnswer}
+use Rattle.pg_checker.specs.Naming.{Begins, IsNamed}
 use Rattle.pg_checker.specs.Terms.{Terms}
+use Rattle.pg_checker.specs.declared.problem.Problem.{Problem}
 use Rattle.pg_files.specs.Inputs.{IsAll}
+use Rattle.pg_san.specs.Listing.{IsListing}
 use Rattle.pg_texts.specs.Report.{IsVerdict}
 use Rattle.pg_report.specs.Answering.{IsReported}
-use Rattle.pg_report.specs.Naming.{Begins, IsNamed}
-use Rattle.pg_report.specs.Run.{AreSpelled}
 use Rattle.pg_report.specs.Statuses.{verdict_status}
 use Rattle.pg_texts.specs.declared.verdict.Verdict.{Verdict}
+use Rattle.pg_cli.specs.declared.refusals.Refusal.{Refusal}
 
 -- the list is the exact answer to the diagram and the length, and
 -- the status is that of its verdict: 0 where it has one game, else 1
 abbrev pub IsAnswered : Placement → ℕ → List (List Move) → ℕ → Type 0
 IsAnswered d n list status = IsExactAnswer d n list × ((v : Verdict) × IsVerdict list v × (status ≡ verdict_status v))
-
--- the three texts spell a diagram, a length and a list, and the list is the exact answer, with this status
-abbrev pub AreAnswered : List ℕ → List ℕ → List ℕ → ℕ → Type 0
-AreAnswered diagram length games status =
-    (d : Placement) × (n : ℕ) × (list : List (List Move)) × AreSpelled diagram length games d n list
-    × IsAnswered d n list status
 
 -- some list is the exact answer to a diagram and a length
 abbrev pub HasList : Placement → ℕ → Type 0
@@ -39,15 +35,22 @@ IsHandedAnswer t d n before after status = (v : Verdict) × (status ≡ verdict_
 abbrev pub HasAnswer : Placement → ℕ → ℕ → Type 0
 HasAnswer d n status = (list : List (List Move)) × IsAnswered d n list status
 
--- the bytes of some opened file, where they are known, begin with a header that names this diagram and this length
-abbrev pub IsNamedIn : {F : Type 0} → (F → Option (List ℕ)) → Placement → ℕ → Type 0
-IsNamedIn {F} remaining d n = (file : F) × IfSome (remaining file) (Begins (λ h. IsNamed h d n))
-
 -- these are the bytes of some opened file or, where the name is a hyphen, of some standard input, where those are known
 abbrev pub IsGivenBy : {F R : Type 0} → (F → Option (List ℕ)) → (R → Option (List ℕ)) → Text → List ℕ → Type 0
 IsGivenBy {F} {R} file input name bytes = (source : Either F R) × (IsFalse (is_left source) ↔ (name ≡ codes "-"))
     × IsAll (either file input source) bytes
 
--- so it is for a diagram and a length that are named so
-abbrev pub IsAnsweredBySome : (Placement → ℕ → Type 0) → ℕ → Type 0
-IsAnsweredBySome Names status = (d : Placement) × (n : ℕ) × Names d n × HasAnswer d n status
+-- the bytes of some opened file or, where the name is a hyphen, of some standard input, where those are known, begin with
+-- a header that names this diagram and this length
+abbrev pub IsNamedBy : {F R : Type 0} → (F → Option (List ℕ)) → (R → Option (List ℕ)) → Text → Placement → ℕ → Type 0
+IsNamedBy {F} {R} file input name d n = (source : Either F R) × (IsFalse (is_left source) ↔ (name ≡ codes "-"))
+    × IfSome (either file input source) (Begins (λ h. IsNamed h d n))
+
+-- a problem is given, and so it is for its diagram and its length
+abbrev pub OfGiven : Result Problem Refusal → (Placement → ℕ → Type 0) → Type 0
+OfGiven (Ok p) Is = Is p.diagram p.length
+OfGiven (Err refusal) Is = ⊥
+
+-- so it is for a list that some text spells
+abbrev pub OfSomeText : (List (List Move) → Type 0) → Type 0
+OfSomeText Is = (text : List ℕ) × (list : List (List Move)) × IsListing text list × Is list

@@ -1,4 +1,5 @@
 pub mod Answers
+pub mod Asking
 pub mod Ending
 pub mod Judging
 pub mod Knowing

@@ -1,7 +1,11 @@
--- The refusal that a fault of a file is, and the status with which the program ends where a command has no answer.
+-- The refusal that a fault of a file or of a list is, and the status with which the program ends where a command has no answer.
 use Rattle.std.specs.Prelude.{ℕ}
+use Rattle.pg_checker.specs.declared.fault.Fault.TheVariants.{Listed as Unfit}
+use Rattle.pg_cooks.specs.declared.fault.ListingFault.{ListingFault}
+use Rattle.pg_cooks.specs.declared.fault.ListingFault.TheVariants as listing
 use Rattle.pg_files.specs.declared.faults.FileFault.{FileFault}
 use Rattle.pg_files.specs.declared.faults.FileFault.TheVariants as file
+use Rattle.pg_report.specs.declared.fault.RunFault.TheVariants.{Check as CheckFault, Write as CheckWrite}
 use Rattle.pg_report.specs.Statuses.{answer_status_of, status_of, search_status_of, show_status_of, moves_status_of, count_status_of, upgrade_status_of}
 use Rattle.pg_cli.specs.declared.refusals.Named.{Named}
 use Rattle.pg_cli.specs.declared.refusals.Refusal.{Refusal}
@@ -36,3 +40,8 @@ file_refusal (file.Open obstacle) name = Open name obstacle
 file_refusal file.Read name = Read
 file_refusal file.Write name = Write
 file_refusal file.Memory name = Memory
+
+-- the refusal that a fault of a list is which is written
+abbrev pub listing_refusal : ListingFault → Refusal
+listing_refusal (listing.Listed fault) = Check (CheckFault (Unfit fault))
+listing_refusal listing.Write = Check CheckWrite

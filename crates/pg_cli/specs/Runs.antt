@@ -1,6 +1,6 @@
 -- What a run of a command comes to, by its words, the bytes that it is told and its sink: what it has written where it
 -- has a status, as the sink below its buffer holds it before and after; and why it has none.
-use Rattle.std.specs.Prelude.{◌≡◌, ◌⊎◌, ℕ, ◌<◌, Bool, true, List, ◌++◌, Option, Some, Ok, Err, IsUtf8, codes, length as length_of_list}
+use Rattle.std.specs.Prelude.{◌≡◌, ◌⊎◌, ℕ, ◌<◌, Bool, true, List, ◌++◌, Option, Some, Result, Ok, Err, IsUtf8, codes, length as length_of_list}
 use Rattle.std.specs.Fmt.{decimal}
 use Rattle.clap.specs.Words.{Row, first_of}
 use Rattle.pg_board.specs.Placement.{Placement}
@@ -15,12 +15,12 @@ use Rattle.pg_checker.specs.ProblemText.{IsProblemFault}
 use Rattle.pg_checker.specs.Telling.{Tells}
 use Rattle.pg_checker.specs.Terms.{Terms}
 use Rattle.pg_checker.specs.declared.fault.Fault.TheVariants.{Listed as Unfit}
-use Rattle.pg_checker.specs.declared.fault.RunFault.TheVariants.{Diagram as CheckDiagram, Length as CheckLength, Games as CheckGames, Check as CheckFault, Write as CheckWrite}
+use Rattle.pg_checker.specs.declared.fault.ProblemFault.TheVariants as problem
+use Rattle.pg_checker.specs.declared.problem.Problem.{Problem}
+use Rattle.pg_report.specs.declared.fault.RunFault.TheVariants.{Diagram as CheckDiagram, Length as CheckLength, Games as CheckGames, Check as CheckFault, Write as CheckWrite}
 use Rattle.pg_san.specs.Listing.{IsTextFault}
-use Rattle.pg_san.specs.declared.listing_fault.GamesFault.{GamesFault}
 use Rattle.pg_searcher.specs.declared.fault.SearchFault.{SearchFault}
 use Rattle.pg_searcher.specs.declared.fault.SearchFault.TheVariants as search
-use Rattle.pg_texts.specs.Spelled.{AreSpelled}
 use Rattle.pg_texts.specs.Report.{line_text}
 use Rattle.pg_texts.specs.MovesText.{SpellsPosition, IsMovesText, IsMovesFault}
 use Rattle.pg_texts.specs.CountText.{IsCountRunFault}
@@ -29,13 +29,14 @@ use Rattle.pg_texts.specs.declared.fault.MovesFault.TheVariants.{Write as MovesW
 use Rattle.pg_texts.specs.declared.fault.CountRunFault.TheVariants.{Write as CountWrite}
 use Rattle.pg_texts.specs.declared.fault.UpgradeFault.TheVariants.{Write as CopyWrite}
 use Rattle.pg_report.specs.Answering.{IsUnreported}
-use Rattle.pg_report.specs.Run.{Failures, IsCheckFault, IsRunFault}
+use Rattle.pg_report.specs.Run.{Failures, IsCheckFault}
 use Rattle.pg_report.specs.Shortest.{IsLeastLength, NoneBelow}
 use Rattle.pg_report.specs.Showing.{IsShown}
 use Rattle.pg_report.specs.declared.fault.AnswerRunFault.TheVariants.{Answer as Unanswered, Write as ReportWrite}
 use Rattle.pg_report.specs.declared.fault.ShowFault.TheVariants.{Memory as NoMemory, Write as NoWrite}
 use Rattle.pg_cooks.specs.Known.{IsListingFault}
 use Rattle.pg_cooks.specs.Cooks.{IsCookAnswer, IsCooksReport, IsCooksRunFault}
+use Rattle.pg_cooks.specs.declared.fault.ListingFault.{ListingFault}
 use Rattle.pg_cooks.specs.declared.finding.CookAnswer.{CookAnswer}
 use Rattle.pg_cooks.specs.declared.fault.CooksFault.TheVariants as finding
 use Rattle.pg_cooks.specs.declared.fault.CooksRunFault.{CooksRunFault}
@@ -46,9 +47,11 @@ use Rattle.pg_guide.specs.declared.fault.WhyFault.TheVariants as why
 use Rattle.pg_page.specs.Page.{IsPageFault}
 use Rattle.pg_page.specs.declared.fault.PageFault.{PageFault}
 use Rattle.pg_page.specs.declared.fault.PageFault.TheVariants as page
+use Rattle.pg_cli.specs.Answers.{OfGiven, OfSomeText}
 use Rattle.pg_cli.specs.Knowing.{answer_status}
-use Rattle.pg_cli.specs.Words.{spelled, IsSpelled, SpellsBoard}
-use Rattle.pg_cli.specs.declared.refusals.Known.{Known}
+use Rattle.pg_cli.specs.Refusals.{listing_refusal}
+use Rattle.pg_cli.specs.Words.{spelled, SpellsBoard}
+use Rattle.pg_cli.specs.declared.refusals.Reached.{Reached}
 use Rattle.pg_cli.specs.declared.refusals.Refusal.{Refusal}
 use Rattle.pg_cli.specs.declared.refusals.Refusal.TheVariants.{Open, NoGame, NotUtf8, Read, Write, Memory, Line as NoLine, Show, Moves, Count, Search, Full, GaveUp, Upgrade, Check, Answer}
 
@@ -60,6 +63,11 @@ IsOfFile Read = Unit {0}
 IsOfFile Write = Unit {0}
 IsOfFile Memory = Unit {0}
 IsOfFile refusal = ⊥
+
+-- so it is, or the bytes of a list of games are no text
+abbrev pub IsOfInput : Refusal → Type 0
+IsOfInput NotUtf8 = Unit {0}
+IsOfInput refusal = IsOfFile refusal
 
 -- the sink refused what was to be written
 abbrev pub IsOfSink : Refusal → Type 0
@@ -119,25 +127,35 @@ IsShowRefusal rows failed refusal = IsOfBoard rows refusal
 -- ---- a list of games
 -- the words DIAGRAM and LENGTH are no problem
 abbrev pub IsOfProblem : List Row → Refusal → Type 0
-IsOfProblem rows (Check fault) = IsProblemFault (spelled (codes "DIAGRAM") rows) (spelled (codes "LENGTH") rows) fault
+IsOfProblem rows (Check (CheckDiagram fault)) =
+    IsProblemFault (spelled (codes "DIAGRAM") rows) (spelled (codes "LENGTH") rows) (problem.Diagram fault)
+IsOfProblem rows (Check (CheckLength fault)) =
+    IsProblemFault (spelled (codes "DIAGRAM") rows) (spelled (codes "LENGTH") rows) (problem.Length fault)
 IsOfProblem rows refusal = ⊥
 
--- the words DIAGRAM and LENGTH and this text spell a diagram, a length and a list
-abbrev pub AreListed : List Row → List ℕ → Placement → ℕ → List (List Move) → Type 0
-AreListed rows text d n list =
-    AreSpelled (spelled (codes "DIAGRAM") rows) (spelled (codes "LENGTH") rows) text d n list
+-- this text is refused as a list of games
+abbrev pub IsOfText : List ℕ → Refusal → Type 0
+IsOfText text (Check (CheckGames fault)) = IsTextFault text fault
+IsOfText text refusal = ⊥
 
--- these bytes are no text; else the words are no problem; else the text is refused as a list
-abbrev pub IsOfList : List Row → List ℕ → Refusal → Type 0
-IsOfList rows text refusal = ((refusal ≡ NotUtf8) × ¬ IsUtf8 text)
-    ⊎ (IsOfProblem rows refusal
-    ⊎ ((d : Placement) × (n : ℕ) × (fault : GamesFault) × IsSpelled rows d n × (refusal ≡ Check (CheckGames fault))
-    × IsTextFault text fault))
+-- these bytes are no text; else there is no problem; else the text is refused as a list
+abbrev pub IsOfList : Result Problem Refusal → List ℕ → Refusal → Type 0
+IsOfList given text refusal = ((refusal ≡ NotUtf8) × ¬ IsUtf8 text)
+    ⊎ ((given ≡ Err refusal) ⊎ ((p : Problem) × (given ≡ Ok p) × IsOfText text refusal))
+
+-- a file or what it holds is refused; or there is no problem; or so it is for the one that is given
+abbrev pub IsRefusedFor : (Placement → ℕ → Refusal → Type 0) → Result Problem Refusal → Refusal → Type 0
+IsRefusedFor Is given refusal =
+    IsOfInput refusal ⊎ ((given ≡ Err refusal) ⊎ OfGiven given (λ d n. Is d n refusal))
+
+-- there is no list for a problem: that of some text is refused
+abbrev pub IsUnlisted : Result Problem Refusal → Refusal → Type 0
+IsUnlisted given refusal = IsRefusedFor (λ d n r. (text : List ℕ) × IsOfText text r) given refusal
 
 -- a listed game is no solution, or the sink has failed
 abbrev pub IsGamesRefusal : Placement → ℕ → List (List Move) → Bool → Refusal → Type 0
-IsGamesRefusal d n list failed (Check fault) = IsListingFault d n list failed fault
-IsGamesRefusal d n list failed refusal = ⊥
+IsGamesRefusal d n list failed refusal =
+    (fault : ListingFault) × (refusal ≡ listing_refusal fault) × IsListingFault d n list failed fault
 
 -- the refusal that a fault of a search beside a list is
 abbrev pub cooks_refusal : CooksRunFault → Refusal
@@ -157,26 +175,16 @@ HasCooksReport status d n list text =
     (a : CookAnswer) × IsCookAnswer d n list a × (status ≡ answer_status a) × IsCooksReport d n list a text
 
 -- ---- a certificate
--- some text of this kind is appended, of a diagram, a length and a list that the words and these bytes spell
-abbrev pub AddsOf : (Placement → ℕ → List (List Move) → List ℕ → Type 0) → List Row → List ℕ
-    → Option (List ℕ) → Option (List ℕ) → Type 0
-AddsOf Is rows games before after =
-    (d : Placement) × (n : ℕ) × (list : List (List Move)) × AreListed rows games d n list
-    × AddsSome (Is d n list) before after
-
--- the bytes of the list are no text; or the check has this fault: one of
--- the texts is refused, or the certificate is, or the sink has failed
-abbrev pub IsCheckRefusal : List Row → List ℕ → Terms → Failures → Refusal → Type 0
-IsCheckRefusal rows games t failed NotUtf8 = ¬ IsUtf8 games
-IsCheckRefusal rows games t failed (Check fault) =
-    IsRunFault (record { diagram = spelled (codes "DIAGRAM") rows; length = spelled (codes "LENGTH") rows; games = games })
-    t failed fault
-IsCheckRefusal rows games t failed refusal = ⊥
-
 -- the check of a certificate for this list has this fault
 abbrev pub IsFoundRefusal : Placement → ℕ → List (List Move) → Terms → Failures → Refusal → Type 0
 IsFoundRefusal d n list t failed (Check fault) = IsCheckFault d n list t failed fault
 IsFoundRefusal d n list t failed refusal = ⊥
+
+-- a check for games of n plies that end on d has no status: the list of some text is refused, or the check of a
+-- certificate for it has this fault
+abbrev pub IsUnchecked : Placement → ℕ → Refusal → Type 0
+IsUnchecked d n refusal = ((text : List ℕ) × IsOfText text refusal)
+    ⊎ OfSomeText (λ list. (t : Terms) × (failed : Failures) × IsFoundRefusal d n list t failed refusal)
 
 -- the certificate has no report of its games for this fault; or the rest of the report is refused
 abbrev pub IsAnswerRefusal : Terms → Terms → Placement → ℕ → Failures → Refusal → Type 0
@@ -220,7 +228,7 @@ IsUpgradeRefusal most known source sink out refusal = ⊥
 
 -- ---- a search
 -- the refusal that a fault of a search is, with what is known then
-abbrev pub search_refusal : SearchFault → Known → Refusal
+abbrev pub search_refusal : SearchFault → Reached → Refusal
 search_refusal search.Write known = Search search.Write
 search_refusal search.Memory known = Search search.Memory
 search_refusal fault known = GaveUp fault known
@@ -231,7 +239,7 @@ IsGivenUp n (search.Shorter fewer) = fewer < n
 IsGivenUp n fault = Unit {0}
 
 -- so many different games were met, each of n plies and ending on d
-abbrev pub AreMet : Placement → ℕ → Known → Type 0
+abbrev pub AreMet : Placement → ℕ → Reached → Type 0
 AreMet d n known = (list : List (List Move)) × AreSolutions d n list × (length_of_list list ≡ known.games)
 
 -- a search for games of n plies that end on d has no report: it gave up, or its certificate would be too long, with

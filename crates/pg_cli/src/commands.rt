@@ -1,32 +1,50 @@
-//! The commands of the program, by their names.
+//! The commands of the program, by their names and by what each is asked of.
 ghost use Rattle.std.specs.Prelude.{◌≡◌, ◌↔◌, Some};
 ghost use Rattle.pg_cli.specs.Words.{name_of};
 
 // A command of the program.
 #[derive(Clone, Copy)]
 pub(crate) enum Command {
-    /// What is known at once of a diagram.
-    Show,
-    /// The legal moves of a position.
-    Moves,
-    /// How many games there are from a position.
-    Count,
+    /// One of a problem, which the words DIAGRAM and LENGTH spell.
+    OfProblem(ProblemCommand),
+    /// One of a certificate, which the word CERT names, and of the problem of its header.
+    OfCertificate(CertificateCommand),
+    /// Any other.
+    Other(OtherCommand),
+}
+
+#[derive(Clone, Copy)]
+pub(crate) enum ProblemCommand {
     /// What a list of games shows by itself.
     Games,
     /// A game beside those of a list.
     Cooks,
     /// A certificate is checked.
     Check,
-    /// A certificate gives its games.
-    Answer,
     /// A certificate is searched for, written and checked.
     Search,
-    /// The problems of a file are judged.
-    Judge,
+}
+
+#[derive(Clone, Copy)]
+pub(crate) enum CertificateCommand {
+    /// A certificate gives its games.
+    Answer,
     /// A certificate explains a line of moves.
     Why,
     /// A certificate is shown as a page.
     Page,
+}
+
+#[derive(Clone, Copy)]
+pub(crate) enum OtherCommand {
+    /// What is known at once of a diagram.
+    Show,
+    /// The legal moves of a position.
+    Moves,
+    /// How many games there are from a position.
+    Count,
+    /// The problems of a file are judged.
+    Judge,
     /// A certificate of version 1 is copied as one of version 2.
     Upgrade,
 }
@@ -37,18 +55,18 @@ impl Command {
         ensures { (command : Command) → (result ≡ Some command) ↔ (name.now ≡ name_of command) }
     {
         match name {
-            "show" => Some(Command::Show),
-            "moves" => Some(Command::Moves),
-            "count" => Some(Command::Count),
-            "games" => Some(Command::Games),
-            "cooks" => Some(Command::Cooks),
-            "check" => Some(Command::Check),
-            "answer" => Some(Command::Answer),
-            "search" => Some(Command::Search),
-            "judge" => Some(Command::Judge),
-            "why" => Some(Command::Why),
-            "page" => Some(Command::Page),
-            "upgrade" => Some(Command::Upgrade),
+            "show" => Some(Command::Other(OtherCommand::Show)),
+            "moves" => Some(Command::Other(OtherCommand::Moves)),
+            "count" => Some(Command::Other(OtherCommand::Count)),
+            "games" => Some(Command::OfProblem(ProblemCommand::Games)),
+            "cooks" => Some(Command::OfProblem(ProblemCommand::Cooks)),
+            "check" => Some(Command::OfProblem(ProblemCommand::Check)),
+            "answer" => Some(Command::OfCertificate(CertificateCommand::Answer)),
+            "search" => Some(Command::OfProblem(ProblemCommand::Search)),
+            "judge" => Some(Command::Other(OtherCommand::Judge)),
+            "why" => Some(Command::OfCertificate(CertificateCommand::Why)),
+            "page" => Some(Command::OfCertificate(CertificateCommand::Page)),
+            "upgrade" => Some(Command::Other(OtherCommand::Upgrade)),
             _ => None,
         }
     }

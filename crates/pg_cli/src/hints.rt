@@ -2,7 +2,7 @@
 //! a file, and what to try. They take no part in any answer.
 
 use crate::lists::{tell_byte, tell_list, tell_misfit};
-use crate::refusals::{Known, Refusal};
+use crate::refusals::{Reached, Refusal};
 use crate::spelling::{say_journeys, text_of};
 use clap::ArgMatches;
 use pg_fen::LengthFault;
@@ -58,7 +58,7 @@ fn tell_packing<R: Runtime + AllocGlobal>(rt: &R, path: &str) {
 }
 
 // Says what a search with these words that gave up knows, and what to try.
-fn tell_known<R: Eprint>(rt: &R, words: &ArgMatches<'_>, fault: &SearchFault, known: &Known) {
+fn tell_known<R: Eprint>(rt: &R, words: &ArgMatches<'_>, fault: &SearchFault, known: &Reached) {
     if let SearchFault::Shorter(plies) = fault {
         tell(rt, &on_length(*plies));
         return;
@@ -76,7 +76,7 @@ fn tell_known<R: Eprint>(rt: &R, words: &ArgMatches<'_>, fault: &SearchFault, kn
 }
 
 // Says what a search knows whose certificate would be too long, and what to try.
-fn tell_full<R: Eprint>(rt: &R, known: &Known) {
+fn tell_full<R: Eprint>(rt: &R, known: &Reached) {
     tell(rt, &on_limit(known.nodes, known.tree, known.plies));
     tell(rt, &on_known(known.games));
     let _ = eprintln!(rt; "pg: more --bytes let it be longer");
@@ -107,9 +107,6 @@ fn tell_check<R: Runtime + AllocGlobal>(rt: &R, words: &ArgMatches<'_>, fault: &
 
 // Says what may help where a command of these words has no answer.
 pub(crate) fn advise<R: Runtime + AllocGlobal>(rt: &R, words: &ArgMatches<'_>, refusal: &Refusal) {
-    let Some((_, words)) = words.subcommand() else {
-        return;
-    };
     match refusal {
         Refusal::Open(_, obstacle) => tell_value(rt, *obstacle),
         Refusal::GaveUp(fault, known) => tell_known(rt, words, fault, known),

@@ -32,6 +32,7 @@ use pg_judge::{
 };
 use pg_pawns::PawnFiles;
 use pg_san::{GamesFault, next_line};
+use pg_searcher::SearchProgress;
 use pg_streams::{Cleared, Deadline, Gathered, JudgeLine, Passing, Terminal, Until};
 use std::alloc::{AllocError, AllocFailed};
 use std::collections::BTreeSet;
@@ -41,7 +42,7 @@ use std::rt::Runtime;
 use std::time::Clock;
 use std::{fmt, io};
 
-// One search for the games of a problem visits so many nodes at most, where the words do not say it.
+// The most nodes of one search for the games of a problem, where the words do not say it.
 const NODES: u64 = 100_000_000;
 
 // A line of a list of problems is bad.
@@ -53,14 +54,14 @@ const OTHER: u8 = 1;
 // What is asked of each problem: how far it is searched, where certificates stand, if they are kept, and whether those of
 // other problems are replaced there.
 #[derive(Clone, Copy)]
-struct Asked<'a> {
+struct Orders<'a> {
     reach: Reach,
     by_journeys: bool,
     folder: Option<&'a str>,
     replaces: bool,
 }
 
-impl Asked<'_> {
+impl Orders<'_> {
     // How far a problem is searched.
     fn limits(&self) -> Limits {
         Limits {
@@ -87,7 +88,9 @@ impl<R: Clock + Eprint> JudgeProgress for Watch<'_, R> {
         };
         self.line.begin(called, limit);
     }
+}
 
+impl<R: Clock + Eprint> SearchProgress for Watch<'_, R> {
     fn reached(&mut self, plies: u8, left: u64) {
         self.line.reach(plies, left);
     }
@@ -194,7 +197,7 @@ fn recheck_at<R: Runtime + AllocGlobal>(
     entry: &Entry<'_>,
     bounds: &[Box<dyn Bound>],
     path: &str,
-    asked: &Asked<'_>,
+    orders: &Orders<'_>,
     terminal: &Terminal,
 ) -> Result<Standing, Spoiled>
     ensures ok { IfOk result (IsStanding entry.now) }
@@ -205,7 +208,7 @@ fn recheck_at<R: Runtime + AllocGlobal>(
     }
     let file = open_plain(rt, path)?;
     let passing = Passing::new(rt, terminal, file, size_of(rt, path));
-    let mut source = Until::new(passing, Deadline::new(rt, asked.reach.milliseconds));
+    let mut source = Until::new(passing, Deadline::new(rt, orders.reach.milliseconds));
     let found = recheck(rt.alloc(), entry, bounds, &mut source, u64::MAX);
     let is_over = source.is_over();
     source.into_inner().end();
@@ -221,7 +224,7 @@ fn judge_to<R: Runtime + AllocGlobal, P: JudgeProgress>(
     rt: &R,
     entry: &Entry<'_>,
     bounds: &[Box<dyn Bound>],
-    asked: &Asked<'_>,
+    orders: &Orders<'_>,
     path: &str,
     watch: &mut P,
 ) -> Result<Ruling, Spoiled>
@@ -236,12 +239,12 @@ fn judge_to<R: Runtime + AllocGlobal, P: JudgeProgress>(
             return Err(Spoiled::Place(fault));
         }
     };
-    let mut scratch = OnDisk::new(handle, asked.reach.bytes);
+    let mut scratch = OnDisk::new(handle, orders.reach.bytes);
     let ruling = judge_problem(
         rt.alloc(),
         entry,
         bounds,
-        asked.limits(),
+        orders.limits(),
         &mut scratch,
         watch,
     );
@@ -261,17 +264,17 @@ fn judge_loosely<R: Runtime + AllocGlobal, P: JudgeProgress>(
     rt: &R,
     entry: &Entry<'_>,
     bounds: &[Box<dyn Bound>],
-    asked: &Asked<'_>,
+    orders: &Orders<'_>,
     watch: &mut P,
 ) -> Ruling
     ensures { IsFindingOf entry.now result.finding }
 {
-    let mut scratch = Loose::new(rt, asked.reach.bytes);
+    let mut scratch = Loose::new(rt, orders.reach.bytes);
     judge_problem(
         rt.alloc(),
         entry,
         bounds,
-        asked.limits(),
+        orders.limits(),
         &mut scratch,
         watch,
     )
@@ -283,14 +286,14 @@ fn judge_in<R: Runtime + AllocGlobal>(
     rt: &R,
     entry: &Entry<'_>,
     bounds: &[Box<dyn Bound>],
-    asked: &Asked<'_>,
+    orders: &Orders<'_>,
     path: &str,
     watch: &mut Watch<'_, R>,
 ) -> Result<Judged, Spoiled>
     ensures ok { IfOk result (λ j. IsFindingOf entry.now j.ruling.finding) }
     ensures err { IfErr result (IsSpoiled false) }
 {
-    let old = match recheck_at(rt, entry, bounds, path, asked, watch.terminal) {
+    let old = match recheck_at(rt, entry, bounds, path, orders, watch.terminal) {
         Ok(Standing::Shows(ruling)) => {
             return Ok(Judged {
                 ruling,
@@ -300,8 +303,8 @@ fn judge_in<R: Runtime + AllocGlobal>(
         Ok(Standing::Shown(old)) => old,
         Err(spoiled) => return Err(spoiled),
     };
-    if old == Old::OfAnother && !asked.replaces {
-        let ruling = judge_loosely(rt, entry, bounds, asked, watch);
+    if old == Old::OfAnother && !orders.replaces {
+        let ruling = judge_loosely(rt, entry, bounds, orders, watch);
         return Ok(Judged { ruling, old });
     }
     let old = if old == Old::OfAnother {
@@ -309,7 +312,7 @@ fn judge_in<R: Runtime + AllocGlobal>(
     } else {
         old
     };
-    match judge_to(rt, entry, bounds, asked, path, watch) {
+    match judge_to(rt, entry, bounds, orders, path, watch) {
         Ok(ruling) => Ok(Judged { ruling, old }),
         Err(spoiled) => Err(spoiled),
     }
@@ -320,14 +323,14 @@ fn judge_by<R: Runtime + AllocGlobal>(
     rt: &R,
     entry: &Entry<'_>,
     bounds: &[Box<dyn Bound>],
-    asked: &Asked<'_>,
+    orders: &Orders<'_>,
     watch: &mut Watch<'_, R>,
 ) -> Result<Judged, Spoiled>
     ensures ok { IfOk result (λ j. IsFindingOf entry.now j.ruling.finding) }
     ensures err { IfErr result (IsSpoiled false) }
 {
-    let Some(folder) = asked.folder else {
-        let ruling = judge_loosely(rt, entry, bounds, asked, watch);
+    let Some(folder) = orders.folder else {
+        let ruling = judge_loosely(rt, entry, bounds, orders, watch);
         return Ok(Judged {
             ruling,
             old: Old::Absent,
@@ -336,14 +339,14 @@ fn judge_by<R: Runtime + AllocGlobal>(
     let Ok(path) = format!(in rt.alloc(); "{folder}/{}.pgc", entry.name) else {
         return Err(Spoiled::Run(Refusal::Memory));
     };
-    judge_in(rt, entry, bounds, asked, path.as_str(), watch)
+    judge_in(rt, entry, bounds, orders, path.as_str(), watch)
 }
 
 // Judges a problem by the five bounds.
 fn judge_entry<R: Runtime + AllocGlobal>(
     rt: &R,
     entry: &Entry<'_>,
-    asked: &Asked<'_>,
+    orders: &Orders<'_>,
     watch: &mut Watch<'_, R>,
 ) -> Result<Judged, Spoiled>
     ensures ok { IfOk result (λ j. IsFindingOf entry.now j.ruling.finding) }
@@ -355,7 +358,7 @@ fn judge_entry<R: Runtime + AllocGlobal>(
     let travel = travel_to(rt.alloc(), &entry.problem.diagram)?;
     let journeys = journeys_to(rt.alloc(), &entry.problem.diagram)?;
     let bounds: [Box<dyn Bound>; 5] = [captures, promotions, pawn_files, travel, journeys];
-    judge_by(rt, entry, &bounds, asked, watch)
+    judge_by(rt, entry, &bounds, orders, watch)
 }
 
 // The status of a ruling: 0 where it is said that the problem is sound, else 1.
@@ -370,7 +373,7 @@ fn status_of(ruling: &Ruling) -> u8
 
 // Which of how many problems.
 #[derive(Clone, Copy)]
-struct Place {
+struct Turn {
     number: usize,
     count: usize,
 }
@@ -381,8 +384,8 @@ struct Place {
 fn judge_and_tell<R: Runtime + AllocGlobal, W: Sink>(
     rt: &R,
     entry: &Entry<'_>,
-    asked: &Asked<'_>,
-    place: Place,
+    orders: &Orders<'_>,
+    turn: Turn,
     terminal: &Terminal,
     out: &mut Gathered<W>,
 ) -> Result<u8, Spoiled>
@@ -393,11 +396,11 @@ fn judge_and_tell<R: Runtime + AllocGlobal, W: Sink>(
     ensures unwritten { IfErr result (λ spoiled. spoiled ≢ Spoiled.Run Refusal.Write → out.new ≡ out.old) }
 {
     let mut watch = Watch {
-        line: JudgeLine::new(rt, terminal, place.number, place.count),
-        deadline: Deadline::new(rt, asked.reach.milliseconds),
+        line: JudgeLine::new(rt, terminal, turn.number, turn.count),
+        deadline: Deadline::new(rt, orders.reach.milliseconds),
         terminal,
     };
-    let answer = judge_entry(rt, entry, asked, &mut watch);
+    let answer = judge_entry(rt, entry, orders, &mut watch);
     watch.line.end();
     let judged = match answer {
         Ok(judged) => judged,
@@ -425,7 +428,7 @@ fn say_bad<R: Eprint, D: Display + Drop>(rt: &R, number: usize, what: D) -> u8
 fn judge_line<'t, R: Runtime + AllocGlobal, W: Sink>(
     rt: &R,
     line: &'t [u8],
-    asked: &Asked<'_>,
+    orders: &Orders<'_>,
     seen: &mut Seen<'t>,
     terminal: &Terminal,
     out: &mut Gathered<W>,
@@ -448,12 +451,12 @@ fn judge_line<'t, R: Runtime + AllocGlobal, W: Sink>(
         Ok(false) => return Ok(say_bad(rt, seen.lines, "this name stands above")),
         Err(_) => return Err(Refusal::Memory),
     }
-    seen.place.number = seen.place.number.saturating_add(1);
-    match judge_and_tell(rt, &entry, asked, seen.place, terminal, out) {
+    seen.turn.number = seen.turn.number.saturating_add(1);
+    match judge_and_tell(rt, &entry, orders, seen.turn, terminal, out) {
         Ok(status) => Ok(status),
         Err(Spoiled::Run(refusal)) => Err(refusal),
         Err(Spoiled::Place(fault)) => {
-            let (folder, name) = (asked.folder.unwrap_or(""), entry.name);
+            let (folder, name) = (orders.folder.unwrap_or(""), entry.name);
             let place = AtPlace {
                 folder,
                 name,
@@ -469,7 +472,7 @@ fn judge_line<'t, R: Runtime + AllocGlobal, W: Sink>(
 struct Seen<'t> {
     lines: usize,
     names: BTreeSet<&'t str>,
-    place: Place,
+    turn: Turn,
 }
 
 // About how many lines of a text are problems: those that begin with anything but `#`.
@@ -493,7 +496,7 @@ fn count_problems(text: &[u8]) -> usize {
 fn judge_all<R: Runtime + AllocGlobal, W: Sink>(
     rt: &R,
     text: &[u8],
-    asked: &Asked<'_>,
+    orders: &Orders<'_>,
     terminal: &Terminal,
     out: &mut Gathered<W>,
 ) -> Result<u8, Refusal>
@@ -508,7 +511,7 @@ fn judge_all<R: Runtime + AllocGlobal, W: Sink>(
     let mut seen = Seen {
         lines: 0,
         names: BTreeSet::new(rt.alloc()),
-        place: Place {
+        turn: Turn {
             number: 0,
             count: count_problems(text),
         },
@@ -518,7 +521,7 @@ fn judge_all<R: Runtime + AllocGlobal, W: Sink>(
     while let Some(left) = rest {
         let (line, after) = next_line(left);
         rest = after;
-        let status = match judge_line(rt, line, asked, &mut seen, terminal, out) {
+        let status = match judge_line(rt, line, orders, &mut seen, terminal, out) {
             Ok(status) => status,
             Err(refusal) => return Err(refusal),
         };
@@ -573,7 +576,7 @@ pub(crate) fn judge<R: Runtime + AllocGlobal>(
         Ok(()) => {}
         Err(refusal) => return Err(refusal),
     }
-    let asked = Asked {
+    let orders = Orders {
         reach: reach_of(words, NODES),
         by_journeys: say_journeys(words),
         folder,
@@ -581,5 +584,5 @@ pub(crate) fn judge<R: Runtime + AllocGlobal>(
     };
     let terminal = Terminal::new(screen.lines);
     let mut out = Gathered::new(Cleared::new(ToWrite::new(io::writer(rt)), rt, &terminal));
-    judge_all(rt, text.as_slice(), &asked, &terminal, &mut out)
+    judge_all(rt, text.as_slice(), &orders, &terminal, &mut out)
 }

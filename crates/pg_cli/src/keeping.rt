@@ -9,10 +9,10 @@ use std::io;
 use std::io::{Cursor, Error, ErrorKind, Read, Seek, SeekFrom, Write};
 use std::rt::Runtime;
 
-// So many bytes of a certificate that is not kept stand in memory at most.
+// The most bytes of a certificate that is not kept which stand in memory.
 const IN_MEMORY: usize = 32_000_000;
 
-// A file to which a certificate is written, of so many bytes at most, and from which it is read again.
+// A file to which a certificate of limited length is written, and from which it is read again.
 #[derive(Drop)]
 pub(crate) struct OnDisk<F> {
     file: F,
@@ -90,7 +90,7 @@ pub(crate) struct Loose<'a, R: Runtime + AllocGlobal> {
 }
 
 impl<'a, R: Runtime + AllocGlobal> Loose<'a, R> {
-    // An empty one, of so many bytes at most.
+    // An empty one, for `most` bytes.
     pub(crate) fn new(rt: &'a R, most: u64) -> Loose<'a, R> {
         Loose {
             rt,

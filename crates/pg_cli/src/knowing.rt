@@ -1,23 +1,25 @@
 //! `pg games` and `pg cooks`: what a list of games shows by itself, and what is found beside it.
-ghost use Rattle.std.specs.Prelude.{◌≡◌, IfOk, IfErr, OnOk};
-ghost use Rattle.clap.specs.Words.{found_of, rows_of};
+ghost use Rattle.std.specs.Prelude.{◌≡◌, ℕ, List, Ok, IfOk, IfErr, OnOk};
 ghost use Rattle.pg_certificate.specs.Pushing.{AddsSome};
 ghost use Rattle.pg_cooks.specs.Standing.{IsGamesReport};
 ghost use Rattle.pg_cooks.specs.Unsound.{IsUnsound};
+ghost use Rattle.pg_san.specs.Listing.{IsListing};
 ghost use Rattle.pg_streams.specs.Buffer.{sink_of};
+ghost use Rattle.pg_cli.specs.Answers.{OfGiven};
 ghost use Rattle.pg_cli.specs.Knowing.{IsFollowedWith, IsTestedWith, answer_status, standing_status};
-ghost use Rattle.pg_cli.specs.Runs.{AreListed, HasCooksReport, IsCooksRefusal, IsGamesRefusal, IsOfList, cooks_refusal};
-ghost use Rattle.pg_cli.specs.Words.{IsFollowed, IsTested};
+ghost use Rattle.pg_cli.specs.Runs.{HasCooksReport, IsCooksRefusal, IsGamesRefusal, IsOfList, IsUnlisted, cooks_refusal};
+ghost use Rattle.pg_cli.specs.Words.{says_of_problem};
+ghost use Rattle.pg_cli.specs.declared.commands.ProblemCommand.TheVariants.{Games as TheGames, Cooks as TheCooks};
 
-use crate::checking::{finished, games_of};
+use crate::checking::finished;
 use crate::limits::reach_of;
-use crate::refusals::Refusal;
+use crate::refusals::{Named, Refusal};
 use crate::screen::Screen;
-use crate::spelling::problem_in;
 use clap::ArgMatches;
 use pg_cooks::{
     CookAnswer, CooksFault, CooksRunFault, LedLimits, LedProgress, Standing, run_cooks, run_games,
 };
+use pg_files::{INPUT, is_input, list};
 use pg_report::{Fault, Games, Problem, RunFault, Sink, ToWrite};
 use pg_san::read_games;
 use pg_streams::{Cleared, Deadline, Gathered, LedLine, Terminal, Timed};
@@ -25,7 +27,7 @@ use std::alloc::Global;
 use std::rt::Runtime;
 use std::{io, str};
 
-// So many nodes are visited at most, where the words do not say it.
+// The most nodes of a search, where the words do not say it.
 const NODES: u64 = 10_000_000;
 
 // The status after a list was tested: 1 where it shows that the problem is not sound.
@@ -55,32 +57,82 @@ fn answer_status(answer: &CookAnswer) -> u8
 
 // A problem, and a list of games for it.
 #[derive(Drop)]
-struct Listed {
-    problem: Problem,
-    games: Games,
+pub(crate) struct Listed {
+    pub(crate) problem: Problem,
+    pub(crate) games: Games,
 }
 
-// The problem that the words spell, and the list that these bytes spell.
+// A problem, and the list that these bytes spell.
 //
 // # Errors
-// In this order: `NotUtf8` where the bytes are no text; `Check` with `Diagram`, `Length` and `Games` where that text is
+// In this order: `NotUtf8` where the bytes are no text; why there is no problem; `Check` with `Games` where the text is
 // refused.
-fn listed_in(alloc: Global, words: &ArgMatches<'_>, list: &[u8]) -> Result<Listed, Refusal>
-    ensures ok { IfOk result (λ l. AreListed (rows_of (found_of words.now)) list.now
-        l.problem.diagram l.problem.length l.games) }
-    ensures err { IfErr result (λ refusal. IsOfList (rows_of (found_of words.now)) list.now refusal) }
+fn listed_in(
+    alloc: Global,
+    problem: Result<Problem, Refusal>,
+    list: &[u8],
+) -> Result<Listed, Refusal>
+    ensures problem { IfOk result (λ l. problem ≡ Ok l.problem) }
+    ensures games { IfOk result (λ l. IsListing list.now l.games) }
+    ensures err { IfErr result (IsOfList problem list.now) }
 {
     let text = match str::from_utf8(list) {
         Ok(text) => text,
         Err(_) => return Err(Refusal::NotUtf8),
     };
-    let problem = match problem_in(words) {
+    let problem = match problem {
         Ok(problem) => problem,
         Err(refusal) => return Err(refusal),
     };
     match read_games(alloc, text) {
         Ok(games) => Ok(Listed { problem, games }),
         Err(fault) => Err(Refusal::Check(RunFault::Games(fault))),
+    }
+}
+
+// A problem, and the list of the file of this name, or of standard input where the name is `-`.
+//
+// # Errors
+// Those of `list`, and those of `listed_in`.
+fn listed_from<R: Runtime + AllocGlobal>(
+    rt: &R,
+    name: &str,
+    problem: Result<Problem, Refusal>,
+) -> Result<Listed, Refusal>
+    ensures problem { IfOk result (λ l. problem ≡ Ok l.problem) }
+    ensures games { IfOk result (λ l. (text : List ℕ) × IsListing text l.games) }
+    ensures err { IfErr result (IsUnlisted problem) }
+{
+    match list(rt, name) {
+        Ok(games) => listed_in(rt.alloc(), problem, games.as_slice()),
+        Err(fault) => Err(Refusal::of_file(fault, Named::Games)),
+    }
+}
+
+// The same with the list that the words name; standard input where they name none. Where somebody is to type it, it is
+// told before why there is no problem.
+pub(crate) fn read_listed<R: Runtime + AllocGlobal>(
+    rt: &R,
+    words: &ArgMatches<'_>,
+    problem: Result<Problem, Refusal>,
+    screen: Screen,
+) -> Result<Listed, Refusal>
+    ensures problem { IfOk result (λ l. problem ≡ Ok l.problem) }
+    ensures games { IfOk result (λ l. (text : List ℕ) × IsListing text l.games) }
+    ensures err { IfErr result (IsUnlisted problem) }
+{
+    let name = words.get_str("GAMES").unwrap_or(INPUT);
+    if !screen.input || !is_input(name) {
+        return listed_from(rt, name, problem);
+    }
+    match problem {
+        Ok(problem) => {
+            let _ = eprintln!(rt;
+                "pg: type the games, one a line; end with Ctrl-D on a line of its own"
+            );
+            listed_from(rt, name, Ok(problem))
+        }
+        Err(refusal) => Err(refusal),
     }
 }
 
@@ -102,7 +154,7 @@ pub(crate) fn games_from<W: Sink>(
 {
     match run_games(problem, games, out) {
         Ok(standing) => finished(standing_status(standing), out),
-        Err(fault) => Err(Refusal::Check(fault)),
+        Err(fault) => Err(Refusal::of_listing(fault)),
     }
 }
 
@@ -153,12 +205,12 @@ pub(crate) fn cooks_from<P: LedProgress, W: Sink>(
 pub(crate) fn games<R: Runtime + AllocGlobal>(
     rt: &R,
     words: &ArgMatches<'_>,
+    problem: Result<Problem, Refusal>,
     screen: Screen,
 ) -> Result<u8, Refusal>
-    ensures { IfOk result (λ status. IsTested (rows_of (found_of words.now)) status) }
+    ensures { IfOk result (λ status. OfGiven problem (λ d n. says_of_problem TheGames d n status)) }
 {
-    let list = games_of(rt, words, screen)?;
-    let listed = listed_in(rt.alloc(), words, list.as_slice())?;
+    let listed = read_listed(rt, words, problem, screen)?;
     let mut out = Gathered::new(ToWrite::new(io::writer(rt)));
     games_from(&listed.problem, &listed.games, &mut out)
 }
@@ -169,12 +221,12 @@ pub(crate) fn games<R: Runtime + AllocGlobal>(
 pub(crate) fn cooks<R: Runtime + AllocGlobal>(
     rt: &R,
     words: &ArgMatches<'_>,
+    problem: Result<Problem, Refusal>,
     screen: Screen,
 ) -> Result<u8, Refusal>
-    ensures { IfOk result (λ status. IsFollowed (rows_of (found_of words.now)) status) }
+    ensures { IfOk result (λ status. OfGiven problem (λ d n. says_of_problem TheCooks d n status)) }
 {
-    let list = games_of(rt, words, screen)?;
-    let listed = listed_in(rt.alloc(), words, list.as_slice())?;
+    let listed = read_listed(rt, words, problem, screen)?;
     let reach = reach_of(words, NODES);
     let limits = LedLimits {
         max_nodes: reach.nodes,

@@ -4,7 +4,7 @@ use clap::ArgMatches;
 use clap::parser::ValueSource;
 use pg_streams::milliseconds_of;
 
-// How far a search goes: so many nodes, so many milliseconds, or any number of them, and so many bytes of a certificate
+// How far a search goes: the most nodes, the most milliseconds, if they are limited, and the most bytes of a certificate
 // that is written to a file.
 #[derive(Clone, Copy)]
 pub(crate) struct Reach {
@@ -13,7 +13,7 @@ pub(crate) struct Reach {
     pub(crate) bytes: u64,
 }
 
-// A certificate has so many bytes at most, where the words do not say it.
+// The most bytes of a certificate, where the words do not say it.
 const BYTES: u64 = 4_000_000_000;
 
 // The milliseconds that the words say, if they do.
@@ -39,10 +39,7 @@ pub(crate) fn reach_of(words: &ArgMatches<'_>, usual: u64) -> Reach {
 
 // Whether the number of minutes that a command's words may say is one.
 pub(crate) fn are_minutes(words: &ArgMatches<'_>) -> bool {
-    let Some((_, inner)) = words.subcommand() else {
-        return true;
-    };
-    match inner.get_str("minutes") {
+    match words.get_str("minutes") {
         Some(minutes) => milliseconds_of(minutes).is_some(),
         None => true,
     }

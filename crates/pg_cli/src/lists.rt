@@ -12,7 +12,7 @@ use std::io::Eprint;
 use std::rt::Runtime;
 use std::str;
 
-// So many squares are told at most on which a game ends otherwise.
+// The most squares that are told on which a game ends otherwise.
 const SQUARES: u8 = 4;
 
 // The bytes of a list that the words name, where they can be read again: MOVES, or a plain file.

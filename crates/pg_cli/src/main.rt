@@ -6,13 +6,15 @@
 //! behind `check`, `answer`, `search`, `judge`, `why` and `page`, `--minutes M` behind `cooks`, `search` and `judge`.
 #![tactic(auto)]
 
-ghost use Rattle.std.specs.Prelude.{◌≡◌, ◌↔◌, List, IsTrue, IfOk, IfErr};
-ghost use Rattle.clap.specs.Words.{Row, Text, found_of, rows_of};
-ghost use Rattle.pg_cli.specs.Answers.{IsGivenBy, IsNamedIn};
-ghost use Rattle.pg_cli.specs.Ending.{IsEnd, IsRefusal, refuses};
-ghost use Rattle.pg_cli.specs.Words.{GoesByJourneys, IsStatus, IsSubcommand, says};
+ghost use Rattle.std.specs.Prelude.{◌≡◌, ◌⊎◌, ◌↔◌, IsTrue, IfOk, IfErr};
+ghost use Rattle.clap.specs.Words.{found_of, rows_of};
+ghost use Rattle.pg_cli.specs.Answers.{IsGivenBy, IsNamedBy, OfGiven};
+ghost use Rattle.pg_cli.specs.Asking.{refuses_as_asked, says_as_asked};
+ghost use Rattle.pg_cli.specs.Ending.{IsEnd, IsUnready, refuses, refuses_problem};
+ghost use Rattle.pg_cli.specs.Words.{GoesByJourneys, IsStatus, says, says_of_problem, says_of_words};
 
 mod answering;
+mod asked;
 mod bounds;
 mod checking;
 mod commands;
@@ -29,182 +31,199 @@ mod refusals;
 mod screen;
 mod searching;
 mod spelling;
+mod telling;
 mod upgrading;
 
-use crate::answering::diagram_in;
+use crate::asked::{Asked, asked_by};
 use crate::bounds::{journeys_to, travel_to};
-use crate::commands::Command;
+use crate::commands::{Command, OtherCommand, ProblemCommand};
 use crate::hints::{advise, advise_words};
 use crate::limits::are_minutes;
 use crate::refusals::{BAD_INPUT, DONE, NO_FILE, Refusal, refuse};
 use crate::screen::{Screen, is_dumb};
 use crate::spelling::{nameless_in, say_journeys, text_of};
+use crate::telling::tell;
 use clap::ArgMatches;
 use clap::error::ErrorKind;
-use pg_fen::Diagram;
 use pg_files::FileName;
 use pg_journeys::Journeys;
-use pg_report::{Bound, Captures, PawnFiles, Promotions, Travel};
+use pg_report::{Bound, Captures, PawnFiles, Problem, Promotions, Travel};
 use pg_words::pg;
 use std::fs::File;
-use std::io::IsTerminal;
+use std::io::{IsTerminal, Read};
 use std::process::ExitCode;
 use std::rt::Runtime;
 use std::{env, io};
 
-// Does a command with its words and these bounds. A status of `check` or `search` means that a list is the exact answer
-// to the diagram and the length which the words spell, one of `answer`, `why` or `page` that it is to those of a
-// header, 1 of `games` or `cooks` that no list of one game is, and one of `judge` what its rows say. No command is
-// inlined here: the frame of this call would hold what each of them needs, and lie below them all.
-fn perform<R: Runtime + AllocGlobal>(
-    rt: &R,
-    command: Command,
-    words: &ArgMatches<'_>,
-    bounds: &[Box<dyn Bound>],
-    screen: Screen,
-) -> Result<u8, Refusal>
-    ensures ok { IfOk result (λ status. says (IsNamedIn R.File.remaining)
-        (IsGivenBy R.File.remaining R.Reader.remaining) command (rows_of (found_of words.now)) status) }
-    ensures err { IfErr result (λ refusal. refuses command (rows_of (found_of words.now)) refusal) }
+// Whether a command with these words goes by the bound by journeys too: `show` always, others where their words say so.
+fn goes_by_journeys(command: Command, words: &ArgMatches<'_>) -> bool
+    ensures { IsTrue result ↔ GoesByJourneys command (rows_of (found_of words.now)) }
 {
     match command {
-        Command::Show => positions::show(rt, words, bounds),
-        Command::Moves => positions::moves(rt, words),
-        Command::Count => positions::count(rt, words, screen.lines),
-        Command::Games => knowing::games(rt, words, screen),
-        Command::Cooks => knowing::cooks(rt, words, screen),
-        Command::Check => checking::check(rt, words, bounds, screen),
-        Command::Answer => answering::answer(rt, words, bounds, screen.lines),
-        Command::Search => searching::search(rt, words, bounds, screen.lines),
-        Command::Judge => judging::judge(rt, words, screen),
-        Command::Why => guiding::why(rt, words, bounds, screen.lines),
-        Command::Page => paging::page(rt, words, bounds, screen.lines),
-        Command::Upgrade => upgrading::upgrade(rt, words, screen.lines),
+        Command::Other(OtherCommand::Show) => true,
+        _ => say_journeys(words),
     }
 }
 
-// Does the command that the words name, with these bounds. A status says of it what `says` has, a refusal what `refuses`
-// has.
-fn carry_out<R: Runtime + AllocGlobal>(
-    rt: &R,
-    words: &ArgMatches<'_>,
-    bounds: &[Box<dyn Bound>],
-    screen: Screen,
-) -> Result<u8, Refusal>
-    ensures ok { IfOk result (λ status. IsStatus (IsNamedIn R.File.remaining)
-        (IsGivenBy R.File.remaining R.Reader.remaining) words.now status) }
-    ensures err { IfErr result (λ refusal. IsRefusal words.now refusal) }
-{
-    let Some((name, inner)) = words.subcommand() else {
-        return Ok(BAD_INPUT);
-    };
-    match Command::named(name) {
-        Some(command) => perform(rt, command, inner, bounds, screen),
-        None => Ok(BAD_INPUT),
-    }
-}
-
-// The file that a refusal speaks of, as the words of the command name it, or none.
-fn file_of<'a>(words: &ArgMatches<'a>, refusal: &Refusal) -> FileName<'a> {
-    let Refusal::Open(named, _) = refusal else {
-        return NO_FILE;
-    };
-    match words.subcommand() {
-        Some((_, inner)) => FileName(text_of(inner, named.word())),
-        None => NO_FILE,
-    }
-}
-
-// Does what the words of a command say, with these bounds, and gives the status: what the command ended with, or that
-// of its refusal, which is not 0.
-fn lend<R: Runtime + AllocGlobal>(
-    rt: &R,
-    words: &ArgMatches<'_>,
-    bounds: &[Box<dyn Bound>],
-    screen: Screen,
-) -> u8
-    ensures end { IsEnd (IsNamedIn R.File.remaining)
-        (IsGivenBy R.File.remaining R.Reader.remaining) words.now result }
-    ensures zero { result ≡ 0 → IsStatus (IsNamedIn R.File.remaining)
-        (IsGivenBy R.File.remaining R.Reader.remaining) words.now 0 }
-{
-    match carry_out(rt, words, bounds, screen) {
-        Ok(status) => status,
-        Err(refusal) => {
-            let status = refuse(rt, &refusal, file_of(words, &refusal));
-            if screen.errors {
-                advise(rt, words, &refusal);
-            }
-            status
-        }
-    }
-}
-
-// The diagram of the words of a command that name a certificate: that which they spell, or else that of the header.
-fn diagram_for<R: Runtime + AllocGlobal>(rt: &R, words: &ArgMatches<'_>) -> Option<Diagram> {
-    let certificate = words.get_str("CERT")?;
-    match words.get_str("DIAGRAM") {
-        Some(text) => Diagram::read(text).ok(),
-        None => diagram_in(rt, certificate),
-    }
-}
-
-// The diagram about which the bounds are asked often, if the words have one.
-fn diagram_of<R: Runtime + AllocGlobal>(rt: &R, words: &ArgMatches<'_>) -> Option<Diagram> {
-    let (_, inner) = words.subcommand()?;
-    diagram_for(rt, inner)
-}
-
-// Whether a command goes by the bound by journeys too: `show` always, the others where their words say so.
-fn goes_by_journeys(words: &ArgMatches<'_>) -> bool
-    ensures { (name : Text) (rows : List Row) → IsSubcommand words.now name rows →
-        IsTrue result ↔ GoesByJourneys name rows }
-{
-    match words.subcommand() {
-        Some((name, inner)) => name == "show" || say_journeys(inner),
-        None => false,
-    }
-}
-
-// Does what the words of a command say, with the bounds in the order of their codes, and gives the status.
+// Whether the words are ready to be gone by.
 //
 // # Errors
-// `Minutes` where their number of minutes is none, then `NoName` where a word that is to name a file is empty, and
-// `Memory` where a growth was refused before.
-fn run<R: Runtime + AllocGlobal>(
-    rt: &R,
-    words: &ArgMatches<'_>,
-    screen: Screen,
-) -> Result<u8, Refusal>
-    ensures end { IfOk result (λ status. IsEnd (IsNamedIn R.File.remaining)
-        (IsGivenBy R.File.remaining R.Reader.remaining) words.now status) }
-    ensures zero { IfOk result (λ status. status ≡ 0 → IsStatus (IsNamedIn R.File.remaining)
-        (IsGivenBy R.File.remaining R.Reader.remaining) words.now 0) }
+// `Minutes` where their number of minutes is none, then `NoName` where a word that is to name a file is empty.
+fn ready(words: &ArgMatches<'_>) -> Result<(), Refusal>
+    ensures { IfErr result IsUnready }
 {
     if !are_minutes(words) {
         return Err(Refusal::Minutes);
     }
-    if let Some(named) = nameless_in(words) {
-        return Err(Refusal::NoName(named));
+    match nameless_in(words) {
+        Some(named) => Err(Refusal::NoName(named)),
+        None => Ok(()),
     }
+}
+
+// Does a command on a problem. No command is inlined here or in `other`: the frame of this call would hold what each of
+// them needs, and lie below them all.
+fn on_problem<R: Runtime + AllocGlobal>(
+    rt: &R,
+    command: ProblemCommand,
+    words: &ArgMatches<'_>,
+    problem: Result<Problem, Refusal>,
+    bounds: &[Box<dyn Bound>],
+    screen: Screen,
+) -> Result<u8, Refusal>
+    ensures ok { IfOk result (λ status. OfGiven problem (λ d n. says_of_problem command d n status)) }
+    ensures err { IfErr result (λ refusal. refuses_problem command problem refusal) }
+{
+    match command {
+        ProblemCommand::Games => knowing::games(rt, words, problem, screen),
+        ProblemCommand::Cooks => knowing::cooks(rt, words, problem, screen),
+        ProblemCommand::Check => checking::check(rt, words, problem, bounds, screen),
+        ProblemCommand::Search => searching::search(rt, words, problem, bounds, screen.lines),
+    }
+}
+
+// Does a command on neither a problem nor a certificate.
+fn other<R: Runtime + AllocGlobal>(
+    rt: &R,
+    command: OtherCommand,
+    words: &ArgMatches<'_>,
+    bounds: &[Box<dyn Bound>],
+    screen: Screen,
+) -> Result<u8, Refusal>
+    ensures ok { IfOk result (λ status. says_of_words (IsGivenBy R.File.remaining R.Reader.remaining)
+        command (rows_of (found_of words.now)) status) }
+    ensures err { IfErr result (λ refusal. refuses (Command.Other command) (rows_of (found_of words.now)) refusal) }
+{
+    match command {
+        OtherCommand::Show => positions::show(rt, words, bounds),
+        OtherCommand::Moves => positions::moves(rt, words),
+        OtherCommand::Count => positions::count(rt, words, screen.lines),
+        OtherCommand::Judge => judging::judge(rt, words, screen),
+        OtherCommand::Upgrade => upgrading::upgrade(rt, words, screen.lines),
+    }
+}
+
+// Does a command on what it is asked of, with the bounds in the order of their codes, which are made for its diagram
+// where that is known. They are made here, in the call that lends them: what a call that hands out a `dyn` claims would
+// hang on its body.
+fn lend<R: Runtime + AllocGlobal, F: Read + Drop>(
+    rt: &R,
+    command: Command,
+    words: &ArgMatches<'_>,
+    asked: Asked<F>,
+    screen: Screen,
+) -> Result<u8, Refusal>
+    ensures ok { IfOk result (λ status. says_as_asked (IsGivenBy R.File.remaining R.Reader.remaining)
+        (rows_of (found_of words.now)) asked status) }
+    ensures err { IfErr result (λ refusal. IsUnready refusal
+        ⊎ refuses_as_asked (rows_of (found_of words.now)) asked refusal) }
+{
     let captures = Box::new(rt.alloc(), Captures)?;
     let promotions = Box::new(rt.alloc(), Promotions)?;
     let pawn_files = Box::new(rt.alloc(), PawnFiles)?;
-    let diagram = diagram_of(rt, words);
+    let diagram = asked.diagram();
     let travel: Box<dyn Bound> = match &diagram {
         Some(diagram) => travel_to(rt.alloc(), diagram)?,
         None => Box::new(rt.alloc(), Travel)?,
     };
     let four: [Box<dyn Bound>; 4] = [captures, promotions, pawn_files, travel];
     let mut bounds = Vec::from_array(rt.alloc(), four)?;
-    if goes_by_journeys(words) {
+    if goes_by_journeys(command, words) {
         let journeys: Box<dyn Bound> = match &diagram {
             Some(diagram) => journeys_to(rt.alloc(), diagram)?,
             None => Box::new(rt.alloc(), Journeys)?,
         };
         bounds.push(journeys)?;
     }
-    Ok(lend(rt, words, bounds.as_slice(), screen))
+    let bounds = bounds.as_slice();
+    match asked {
+        Asked::Words(command, problem) => on_problem(rt, command, words, problem, bounds, screen),
+        Asked::File(command, mut certificate) => {
+            tell(rt, command, words, &mut certificate, bounds, screen.lines)
+        }
+        Asked::Other(command) => other(rt, command, words, bounds, screen),
+    }
+}
+
+// Does a command with its words. A status of `check` or `search` means that a list is the exact answer to the diagram and
+// the length which the words spell, one of `answer`, `why` or `page` that it is to those of a header, 1 of `games` or
+// `cooks` that no list of one game is, and one of `judge` what its rows say.
+//
+// # Errors
+// Those of `ready`; those of `asked_by`; `Memory` where a growth was refused; and those of the command.
+fn perform<R: Runtime + AllocGlobal>(
+    rt: &R,
+    command: Command,
+    words: &ArgMatches<'_>,
+    screen: Screen,
+) -> Result<u8, Refusal>
+    ensures ok { IfOk result (λ status. says (IsNamedBy R.File.remaining R.Reader.remaining)
+        (IsGivenBy R.File.remaining R.Reader.remaining) command (rows_of (found_of words.now)) status) }
+    ensures err { IfErr result (λ refusal. IsUnready refusal
+        ⊎ refuses command (rows_of (found_of words.now)) refusal) }
+{
+    match ready(words) {
+        Ok(()) => {}
+        Err(refusal) => return Err(refusal),
+    }
+    match asked_by(rt, command, words) {
+        Ok(asked) => lend(rt, command, words, asked, screen),
+        Err(refusal) => Err(refusal),
+    }
+}
+
+// The file that a refusal speaks of, as the words of the command name it, or none.
+fn file_of<'a>(words: &ArgMatches<'a>, refusal: &Refusal) -> FileName<'a> {
+    match refusal {
+        Refusal::Open(named, _) => FileName(text_of(words, named.word())),
+        _ => NO_FILE,
+    }
+}
+
+// Does the command that the words name, and gives the status: what the command ended with, or that of its refusal, which
+// is not 0.
+fn run<R: Runtime + AllocGlobal>(rt: &R, words: &ArgMatches<'_>, screen: Screen) -> u8
+    ensures end { IsEnd (IsNamedBy R.File.remaining R.Reader.remaining)
+        (IsGivenBy R.File.remaining R.Reader.remaining) words.now result }
+    ensures zero { result ≡ 0 → IsStatus (IsNamedBy R.File.remaining R.Reader.remaining)
+        (IsGivenBy R.File.remaining R.Reader.remaining) words.now 0 }
+{
+    let Some((name, inner)) = words.subcommand() else {
+        return BAD_INPUT;
+    };
+    let Some(command) = Command::named(name) else {
+        return BAD_INPUT;
+    };
+    match perform(rt, command, inner, screen) {
+        Ok(status) => status,
+        Err(refusal) => {
+            let status = refuse(rt, &refusal, file_of(inner, &refusal));
+            if screen.errors {
+                advise(rt, inner, &refusal);
+            }
+            status
+        }
+    }
 }
 
 // Says why the words are no command, or the help that they ask for, and gives the status.
@@ -228,10 +247,7 @@ fn obey<R: Runtime + AllocGlobal>(rt: &R, words: &[String], screen: Screen) -> u
         return refuse(rt, &Refusal::Memory, NO_FILE);
     };
     match command.try_get_matches_from(words) {
-        Ok(matches) => match run(rt, &matches, screen) {
-            Ok(status) => status,
-            Err(refusal) => refuse(rt, &refusal, NO_FILE),
-        },
+        Ok(matches) => run(rt, &matches, screen),
         Err(error) => {
             let status = explain(rt, &error);
             if screen.errors {
@@ -260,17 +276,10 @@ fn all_words<R: Runtime + AllocGlobal>(rt: &R) -> Result<Vec<String>, Refusal> {
 
 // Where a standard stream is closed, the next file that is opened takes its number, and would be read
 // or written in its place. So folders are opened first, which are neither, and kept to the end.
-fn program<R: Runtime + AllocGlobal>(rt: &R, screen: Screen) -> u8 {
-    let _input = File::open(rt, "/");
-    let _output = File::open(rt, "/");
-    let _errors = File::open(rt, "/");
-    match all_words(rt) {
-        Ok(words) => obey(rt, words.as_slice(), screen),
-        Err(refusal) => refuse(rt, &refusal, NO_FILE),
-    }
-}
-
 fn main(rt: HostRuntime) -> ExitCode {
+    let _input = File::open(&rt, "/");
+    let _output = File::open(&rt, "/");
+    let _errors = File::open(&rt, "/");
     let errors = rt.stderr().is_terminal();
     let screen = Screen {
         input: rt.stdin().is_terminal(),
@@ -278,5 +287,8 @@ fn main(rt: HostRuntime) -> ExitCode {
         errors,
         lines: errors && !is_dumb(&rt),
     };
-    ExitCode::from(program(&rt, screen))
+    ExitCode::from(match all_words(&rt) {
+        Ok(words) => obey(&rt, words.as_slice(), screen),
+        Err(refusal) => refuse(&rt, &refusal, NO_FILE),
+    })
 }

@@ -10,7 +10,7 @@ ghost use Rattle.pg_cli.specs.Runs.{AddsMoves, AddsShown, IsCountRefusal, IsMove
 ghost use Rattle.pg_cli.specs.Words.{HasDiagram, HasFewPlies, HasPosition, OfPlies, SpellsBoard, spelled};
 
 use crate::checking::finished;
-use crate::commands::Command;
+use crate::commands::{Command, OtherCommand};
 use crate::refusals::{DONE, Refusal};
 use crate::spelling::{plies_of, text_of};
 use clap::ArgMatches;
@@ -48,13 +48,13 @@ pub(crate) fn moves_on<W: Sink>(
 #[inline(never)]
 pub(crate) fn moves<R: Runtime + AllocGlobal>(rt: &R, words: &ArgMatches<'_>) -> Result<u8, Refusal>
     ensures ok { IfOk result (λ status. HasPosition (rows_of (found_of words.now)) status) }
-    ensures err { IfErr result (λ refusal. refuses Command.Moves (rows_of (found_of words.now)) refusal) }
+    ensures err { IfErr result (λ refusal. refuses (Command.Other OtherCommand.Moves) (rows_of (found_of words.now)) refusal) }
 {
     let mut out = Gathered::new(ToWrite::new(io::writer(rt)));
     moves_on(rt.alloc(), words, &mut out)
 }
 
-// Writes the number of games of so many plies from a position, and hands all of it on.
+// Writes how many games there are from a position, of the plies that the words say, and hands all of it on.
 //
 // # Errors
 // `Count` with the fault of the run, or `Check` with `Write` where the rest is refused.
@@ -87,7 +87,7 @@ pub(crate) fn count<R: Runtime + AllocGlobal>(
     screen: bool,
 ) -> Result<u8, Refusal>
     ensures ok { IfOk result (λ status. HasFewPlies (rows_of (found_of words.now)) status) }
-    ensures err { IfErr result (λ refusal. refuses Command.Count (rows_of (found_of words.now)) refusal) }
+    ensures err { IfErr result (λ refusal. refuses (Command.Other OtherCommand.Count) (rows_of (found_of words.now)) refusal) }
 {
     let terminal = Terminal::new(screen);
     let mut line = CountLine::new(rt, &terminal);
@@ -171,7 +171,7 @@ pub(crate) fn show<R: Runtime + AllocGlobal>(
     bounds: &[Box<dyn Bound>],
 ) -> Result<u8, Refusal>
     ensures ok { IfOk result (λ status. HasDiagram (rows_of (found_of words.now)) status) }
-    ensures err { IfErr result (λ refusal. refuses Command.Show (rows_of (found_of words.now)) refusal) }
+    ensures err { IfErr result (λ refusal. refuses (Command.Other OtherCommand.Show) (rows_of (found_of words.now)) refusal) }
 {
     let mut out = Gathered::new(ToWrite::new(io::writer(rt)));
     show_on(rt.alloc(), words, bounds, &mut out)

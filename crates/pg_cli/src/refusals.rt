@@ -1,7 +1,8 @@
 //! Why a command ends without its answer, what the program says then, and its status.
 ghost use Rattle.std.specs.Prelude.{◌≡◌, ◌<◌, false, true};
-ghost use Rattle.pg_cli.specs.Refusals.{file_refusal, refusal_status};
+ghost use Rattle.pg_cli.specs.Refusals.{file_refusal, listing_refusal, refusal_status};
 
+use pg_cooks::ListingFault;
 use pg_files::{FileFault, FileName, Obstacle};
 use pg_report::{
     AnswerRunFault, CountRunFault, Fault, MovesFault, Refused, RunFault, SearchFault, ShowFault,
@@ -31,7 +32,7 @@ const FILES: u8 = 4;
 // How far a search came that gave up: the games that it met, each tested; the nodes that it visited; and the plies of
 // the tree at work and of the game that is asked.
 #[derive(Clone, Copy, Debug, PartialEq, Eq)]
-pub(crate) struct Known {
+pub(crate) struct Reached {
     pub(crate) games: usize,
     pub(crate) nodes: u64,
     pub(crate) tree: u8,
@@ -134,10 +135,10 @@ pub(crate) enum Refusal {
     Search(SearchFault),
     /// The certificate of a search would have more bytes than it may, and so much is known.
     #[error("certificate limit reached")]
-    Full(Known),
+    Full(Reached),
     /// The search gave up, and so much is known.
     #[error("{0}")]
-    GaveUp(SearchFault, Known),
+    GaveUp(SearchFault, Reached),
     /// The certificate is not copied.
     #[error("{0}")]
     Upgrade(UpgradeFault),
@@ -159,6 +160,16 @@ impl Refusal {
             FileFault::Read => Refusal::Read,
             FileFault::Write => Refusal::Write,
             FileFault::Memory => Refusal::Memory,
+        }
+    }
+
+    // Why a list is not written, as a refusal.
+    pub(crate) fn of_listing(fault: ListingFault) -> Refusal
+        ensures { result ≡ listing_refusal fault }
+    {
+        match fault {
+            ListingFault::Listed(fault) => Refusal::Check(RunFault::Check(Fault::Listed(fault))),
+            ListingFault::Write => Refusal::Check(RunFault::Write),
         }
     }
 
@@ -186,12 +197,22 @@ impl Refusal {
 }
 
 impl From<AllocError> for Refusal {
+    ghost use Rattle.std.specs.Prelude.{◌≡◌};
+    ghost use Rattle.pg_cli.specs.declared.refusals.Refusal.TheVariants.{Memory};
+
+    ghost from_gives = { λ _ refusal. refusal ≡ Memory };
+
     fn from(_fault: AllocError) -> Refusal {
         Refusal::Memory
     }
 }
 
 impl<T: Drop> From<AllocFailed<T>> for Refusal {
+    ghost use Rattle.std.specs.Prelude.{◌≡◌};
+    ghost use Rattle.pg_cli.specs.declared.refusals.Refusal.TheVariants.{Memory};
+
+    ghost from_gives = { λ _ refusal. refusal ≡ Memory };
+
     fn from(_fault: AllocFailed<T>) -> Refusal {
         Refusal::Memory
     }

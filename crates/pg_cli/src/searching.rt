@@ -1,43 +1,33 @@
 //! `pg search`: a certificate is searched for and written, and then checked.
 
-ghost use Rattle.std.specs.Prelude.{◌≡◌, ◌⊎◌, ◌≤◌, List, None, codes, IfNone, IfOk, IfErr, OnOk};
-ghost use Rattle.pg_checker.specs.Cuts.{rules_by};
-ghost use Rattle.pg_checker.specs.Terms.{terms};
+ghost use Rattle.std.specs.Prelude.{◌≡◌, ◌⊎◌, ◌≤◌, List, None, codes, IfNone, IfOk, IfErr};
 ghost use Rattle.pg_position.specs.declared.moves.Move.{Move};
 ghost use Rattle.pg_certificate.specs.Pushing.{AddsSome};
 ghost use Rattle.pg_streams.specs.Buffer.{sink_of};
 ghost use Rattle.pg_texts.specs.Report.{IsReport};
 ghost use Rattle.clap.specs.Words.{first_of, found_of, rows_of};
-ghost use Rattle.pg_report.specs.Run.{failures};
-ghost use Rattle.pg_cli.specs.Answers.{IsAnswered};
-ghost use Rattle.pg_cli.specs.Ending.{IsUnsearched};
-ghost use Rattle.pg_cli.specs.Runs.{AreMet, IsFoundRefusal, IsGivenUp, IsOfFile, IsOfSink, IsSearchRefusal};
+ghost use Rattle.pg_cli.specs.Answers.{HasAnswer, IsAnswered, OfGiven};
+ghost use Rattle.pg_cli.specs.Runs.{AreMet, IsGivenUp, IsOfFile, IsOfSink, IsRefusedFor, IsSearchRefusal};
 ghost use Rattle.pg_cli.specs.Runs.{search_refusal};
-ghost use Rattle.pg_cli.specs.Words.{IsSearched};
+ghost use Rattle.pg_cli.specs.Words.{says_of_problem};
+ghost use Rattle.pg_cli.specs.declared.commands.ProblemCommand.TheVariants.{Search as TheSearch};
 
-use crate::checking::finished;
+use crate::checking::check_listed;
+use crate::knowing::Listed;
 use crate::limits::{Reach, reach_of};
-use crate::refusals::{Known, Named, Refusal};
-use crate::spelling::{RECORDS, problem_in, text_of};
+use crate::refusals::{Named, Reached, Refusal};
+use crate::spelling::{RECORDS, text_of};
 use clap::ArgMatches;
-use pg_certificate::format::MOST_NAMED;
 use pg_cooks::{standing_on, write_solutions};
 use pg_files::{Draft, Obstacle, begin, begin_apart, stand_at_one};
-use pg_journeys::Journeys;
-use pg_report::{
-    Bound, Fault, Games, Problem, Refused, RunFault, SearchFault, SearchProgress, Sink, Source,
-    ToWrite, run_listed, search_watched, verdict_status,
-};
-use pg_searcher::search_by_journeys;
-use pg_streams::{
-    Cleared, Deadline, Gathered, Kept, Limited, Passing, SearchLine, Terminal, Timed,
-};
-use std::alloc::Global;
+use pg_report::{Bound, Fault, Games, Problem, Refused, RunFault, SearchFault, Sink, ToWrite};
+use pg_searcher::{Met, search_by_journeys};
+use pg_streams::{Cleared, Deadline, Gathered, Limited, Passing, SearchLine, Terminal, Timed};
 use std::io;
 use std::io::{Read, Seek, SeekFrom, Write};
 use std::rt::Runtime;
 
-// So many nodes are visited at most, where the words do not say it.
+// The most nodes of a search, where the words do not say it.
 const NODES: u64 = 1_000_000;
 
 // What a search came to: the games that it found, or why it has none; those that it met, each tested; how far it came;
@@ -46,37 +36,8 @@ const NODES: u64 = 1_000_000;
 pub(crate) struct Searched {
     found: Result<Games, SearchFault>,
     met: Games,
-    known: Known,
+    known: Reached,
     is_full: bool,
-}
-
-// Whether the bound by journeys is among these.
-fn have_journeys(bounds: &[Box<dyn Bound>]) -> bool {
-    for bound in bounds {
-        if bound.code() == Journeys::CODE {
-            return true;
-        }
-    }
-    false
-}
-
-// Searches, and cuts by journeys where those bounds have it by which the certificate is to be checked.
-fn found_by<W: Sink, P: SearchProgress>(
-    alloc: Global,
-    problem: &Problem,
-    bounds: &[Box<dyn Bound>],
-    nodes: u64,
-    sink: &mut W,
-    watch: &mut P,
-) -> Result<Games, SearchFault>
-    ensures { IfErr result (λ fault. IsGivenUp problem.now.length fault) }
-{
-    let (diagram, length) = (&problem.diagram, problem.length);
-    if have_journeys(bounds) {
-        search_by_journeys(alloc, diagram, length, nodes, sink, watch)
-    } else {
-        search_watched(alloc, diagram, length, nodes, sink, watch)
-    }
 }
 
 // Searches, and writes the certificate to a writer.
@@ -98,16 +59,19 @@ pub(crate) fn search_to<R: Runtime + AllocGlobal, W: Write + Drop>(
     let mut sink = ToWrite::new(Limited::new(certificate, reach.bytes));
     let nodes = reach.nodes;
     let line = SearchLine::new(rt, terminal, nodes);
-    let timed = Timed::new(line, Deadline::new(rt, reach.milliseconds));
-    let mut kept = Kept::new(rt.alloc(), timed, nodes);
-    let found = found_by(rt.alloc(), problem, bounds, nodes, &mut sink, &mut kept);
-    let Kept {
-        line: mut timed,
-        games,
-        is_short,
-        tree,
-        left,
-    } = kept;
+    let mut timed = Timed::new(line, Deadline::new(rt, reach.milliseconds));
+    let mut games = Games::new(rt.alloc());
+    let mut met = Met::new(&mut timed, &mut games, nodes);
+    let found = search_by_journeys(
+        rt.alloc(),
+        &problem.diagram,
+        problem.length,
+        nodes,
+        bounds,
+        &mut sink,
+        &mut met,
+    );
+    let (is_short, tree, left) = (met.is_short, met.tree, met.left);
     timed.line.end();
     if is_short {
         return Err(Refusal::Memory);
@@ -116,7 +80,7 @@ pub(crate) fn search_to<R: Runtime + AllocGlobal, W: Write + Drop>(
         Ok(_) => {}
         Err(fault) => return Err(Refusal::Check(RunFault::Check(Fault::Listed(fault)))),
     }
-    let known = Known {
+    let known = Reached {
         games: games.len(),
         nodes: nodes.saturating_sub(left),
         tree,
@@ -131,7 +95,7 @@ pub(crate) fn search_to<R: Runtime + AllocGlobal, W: Write + Drop>(
 }
 
 // Why a search has no certificate, with what is known then.
-fn gave_up(fault: SearchFault, known: Known) -> Refusal
+fn gave_up(fault: SearchFault, known: Reached) -> Refusal
     ensures { result ≡ search_refusal fault known }
 {
     match fault {
@@ -159,55 +123,17 @@ fn write_list<F: Write>(
             Ok(_) => Ok(()),
             Err(Refused) => Err(Refusal::Write),
         },
-        Err(fault) => Err(Refusal::Check(fault)),
+        Err(fault) => Err(Refusal::of_listing(fault)),
     }
 }
 
-// So many records the check of a certificate takes at most, where the search visited so many nodes at
-// most: no fewer than it wrote, which is at most one for each node.
+// The most records that the check of a certificate takes, where the search visited at most these nodes: no fewer than it
+// wrote, which is at most one for each node.
 fn records_for(nodes: u64) -> u64
     ensures usual { 100000000 ≤ result }
     ensures all { nodes ≤ result }
 {
     nodes.max(RECORDS)
-}
-
-// Checks the certificate that a source gives with the games that were found, and writes the report; the status of its
-// verdict. A status means that these games are the exact answer, and 0 that it is one; the report is handed on then.
-//
-// # Errors
-// `Check` with the fault of the check. Nothing is written then, but where the sink refuses it.
-pub(crate) fn check_found<S: Source, W: Sink>(
-    alloc: Global,
-    problem: &Problem,
-    games: &Games,
-    bounds: &[Box<dyn Bound>],
-    source: &mut S,
-    out: &mut Gathered<W>,
-    records: u64,
-) -> Result<u8, Refusal>
-    ensures headline { IfOk result (λ status. IsAnswered problem.now.diagram problem.now.length games.now status) }
-    ensures report { OnOk result (AddsSome (IsReport problem.now.diagram problem.now.length games.now)
-        (⟦<Gathered<W> as Sink>⟧.held out.old) (W.held (sink_of out.new))) }
-    ensures err { IfErr result (λ refusal. IsFoundRefusal problem.now.diagram problem.now.length games.now
-        (terms (rules_by code_of excluded bounds.now) records MOST_NAMED (S.left source.old))
-        (failures (S.has_failed source.new) (⟦<Gathered<W> as Sink>⟧.has_failed out.new)) refusal) }
-    ensures unwritten { IfErr result (λ refusal. ¬ IsOfSink refusal → out.new ≡ out.old) }
-{
-    match run_listed(
-        alloc,
-        &problem.diagram,
-        problem.length,
-        games,
-        bounds,
-        source,
-        out,
-        records,
-        MOST_NAMED,
-    ) {
-        Ok(verdict) => finished(verdict_status(verdict), out),
-        Err(fault) => Err(Refusal::Check(fault)),
-    }
 }
 
 // The files that a search writes, beside their places: the certificate, and the list, if one is wanted.
@@ -266,15 +192,11 @@ where
     }
     let records = records_for(reach.nodes);
     let mut source = Passing::new(rt, terminal, &mut drafts.certificate.file, size);
-    let answer = check_found(
-        rt.alloc(),
-        problem,
-        &games,
-        bounds,
-        &mut source,
-        out,
-        records,
-    );
+    let listed = Listed {
+        problem: *problem,
+        games,
+    };
+    let answer = check_listed(rt.alloc(), &listed, records, bounds, &mut source, out);
     source.end();
     answer
 }
@@ -406,8 +328,7 @@ fn search_for<R: Runtime + AllocGlobal>(
     bounds: &[Box<dyn Bound>],
     screen: bool,
 ) -> Result<u8, Refusal>
-    ensures ok { IfOk result (λ status. (games : List (List Move))
-        × IsAnswered problem.now.diagram problem.now.length games status) }
+    ensures ok { IfOk result (λ status. HasAnswer problem.now.diagram problem.now.length status) }
     ensures err { IfErr result (λ refusal. IsOfFile refusal
         ⊎ IsSearchRefusal problem.now.diagram problem.now.length refusal) }
 {
@@ -428,19 +349,20 @@ fn search_for<R: Runtime + AllocGlobal>(
 }
 
 // `pg search`: games are searched for, and a certificate is written and checked. A status means that a list is the
-// exact answer to the diagram and the length which the words spell, and 0 that it has one game. So many games as a
-// search that gave up says to have met solve the problem.
+// exact answer to the problem, and 0 that it has one game. The games that a search which gave up says
+// to have met solve the problem.
 #[inline(never)]
 pub(crate) fn search<R: Runtime + AllocGlobal>(
     rt: &R,
     words: &ArgMatches<'_>,
+    problem: Result<Problem, Refusal>,
     bounds: &[Box<dyn Bound>],
     screen: bool,
 ) -> Result<u8, Refusal>
-    ensures ok { IfOk result (λ status. IsSearched (rows_of (found_of words.now)) status) }
-    ensures err { IfErr result (λ refusal. IsUnsearched (rows_of (found_of words.now)) refusal) }
+    ensures ok { IfOk result (λ status. OfGiven problem (λ d n. says_of_problem TheSearch d n status)) }
+    ensures err { IfErr result (IsRefusedFor IsSearchRefusal problem) }
 {
-    let problem = match problem_in(words) {
+    let problem = match problem {
         Ok(problem) => problem,
         Err(refusal) => return Err(refusal),
     };

@@ -6,7 +6,7 @@ ghost use Rattle.pg_cli.specs.Words.{IsNumber, IsSpelled, spelled};
 
 use crate::refusals::{Named, Refusal};
 use clap::ArgMatches;
-use pg_report::Problem;
+use pg_report::{Problem, RunFault};
 
 // The text of the word with this name; no text where there is none.
 pub(crate) fn text_of<'a>(words: &ArgMatches<'a>, name: &str) -> &'a str
@@ -18,10 +18,10 @@ pub(crate) fn text_of<'a>(words: &ArgMatches<'a>, name: &str) -> &'a str
     }
 }
 
-// So many records are read at most, where the words do not say it.
+// The most records that are read, where the words do not say it.
 pub(crate) const RECORDS: u64 = 100_000_000;
 
-// So many records of a certificate are read at most, as the words say it.
+// The most records of a certificate that are read, as the words say it.
 pub(crate) fn records_of(words: &ArgMatches<'_>) -> u64
     ensures { IsNumber 64 (one_of (codes "records") (rows_of (found_of words.now))) 100000000 result }
 {
@@ -31,7 +31,7 @@ pub(crate) fn records_of(words: &ArgMatches<'_>) -> u64
     }
 }
 
-// Of so many plies games are counted, as the words say it.
+// The plies of the games that are counted, as the words say it.
 pub(crate) fn plies_of(words: &ArgMatches<'_>) -> u8
     ensures { IsNumber 8 (one_of (codes "PLIES") (rows_of (found_of words.now))) 255 result }
 {
@@ -53,7 +53,7 @@ pub(crate) fn problem_in(words: &ArgMatches<'_>) -> Result<Problem, Refusal>
     let length = text_of(words, "LENGTH");
     match Problem::read(diagram, length) {
         Ok(problem) => Ok(problem),
-        Err(fault) => Err(Refusal::Check(fault)),
+        Err(fault) => Err(Refusal::Check(RunFault::of_problem(fault))),
     }
 }
 
@@ -96,9 +96,8 @@ const NAMES: [Named; 7] = [
 
 // The first word of a command that is to name a file or a folder and is empty, if one is.
 pub(crate) fn nameless_in(words: &ArgMatches<'_>) -> Option<Named> {
-    let (_, inner) = words.subcommand()?;
     for named in NAMES {
-        if inner.get_str(named.word()) == Some("") {
+        if words.get_str(named.word()) == Some("") {
             return Some(named);
         }
     }

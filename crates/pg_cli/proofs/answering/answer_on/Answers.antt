@@ -11,7 +11,7 @@ returns-in-Ok g c =
     let k = c.verdict_status.result in
     record {
       headline = has c.finished.result k _ c.finished.ensures.ok (h.0.games, (h.1.0, (v, h.2, is)));
-      report = has_on c.finished.result k _ _ c.finished.ensures.ok c.finished.ensures.handed (λ kept. (c.records_of-records.result, c.records_of-records.ensures, (v, is, (h.0, h.1, h.2, handed g.W.Sink.held c.args.out.now c.run_answer.new.out c.finished.new.out (IsReport c.args.problem.now.diagram c.args.problem.now.length h.0.games) h.3 kept))));
+      report = has_on c.finished.result k _ _ c.finished.ensures.ok c.finished.ensures.handed (λ kept. (c.records_of-records.result, c.records_of-records.ensures, (v, is, (h.0, h.1, h.2, handed g.W.Sink.held c.args.out.now c.run_answer.new.out c.finished.new.out (IsReport c.args.opened.now.diagram c.args.opened.now.plies h.0.games) h.3 kept))));
       err = unwritten c.finished.result _ _ c.finished.ensures.err (λ failed. (c.records_of-records.result, c.records_of-records.ensures, (failed, (h.0, h.1))));
       unwritten = but_for_sink c.finished.result _ _ c.finished.ensures.err;
     }

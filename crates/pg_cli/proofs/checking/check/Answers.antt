@@ -1,17 +1,26 @@
 use Rattle.std.proofs.Common.{inl, inr}
-use Rattle.clap.specs.Words.{found_of, rows_of}
-use Rattle.pg_cli.proofs.EndLemmas.{unlisted}
+use Rattle.pg_cli.specs.Runs.{IsUnchecked}
+use Rattle.pg_cli.proofs.EndLemmas.{given_so, no_list, of_input}
 use Rattle.pg_cli.proofs.StatusLemmas.{is_of_file, tells, tells_why}
 use Rattle.pg_cli.proofs.checking.check.Goals as goal
 
 pub returns-in-Err : goal.returns-in-Err
-returns-in-Err g c = record { ok = tt; err = inl (is_of_file c.in-Err.fault _ _ c.of_file.ensures) }
+returns-in-Err g c = record { ok = tt; err = inl (of_input c.of_file.result (is_of_file c.in-Err.fault _ c.of_file.result c.of_file.ensures)) }
 
-pub returns-in-Err-other_games_of : goal.returns-in-Err-other_games_of
-returns-in-Err-other_games_of g c = record { ok = tt; err = unlisted (rows_of (found_of c.args.words.now)) c.in-Err-other_games_of.refusal c.in-Err-other_games_of.ensures }
+pub returns-in-Err-read_listed : goal.returns-in-Err-read_listed
+returns-in-Err-read_listed g c = record {
+  ok = tt;
+  err = no_list c.args.problem IsUnchecked c.in-Err-read_listed.refusal c.in-Err-read_listed.ensures.err (λ d n h. inl h);
+}
 
 pub returns : goal.returns
-returns g c = record {
-  ok = tells c.check_on-answer.result _ _ c.check_on-answer.ensures.headline (λ s h. (c.as_slice-list.result.now, h));
-  err = tells_why c.check_on-answer.result _ _ c.check_on-answer.ensures.err (λ r h. inr (inr (c.as_slice-list.result.now, _, _, h.2)));
-}
+returns g c =
+    let l = c.in-Ok-read_listed.listed in
+    let is = c.in-Ok-read_listed.ensures.problem in
+    let text = c.in-Ok-read_listed.ensures.games in
+    record {
+      ok = tells c.check_on-answer.result _ _ c.check_on-answer.ensures.headline
+          (λ s h. given_so c.args.problem l.problem _ is (text.0, l.games, text.1, h));
+      err = tells_why c.check_on-answer.result _ _ c.check_on-answer.ensures.found
+          (λ r h. inr (inr (given_so c.args.problem l.problem (λ d n. IsUnchecked d n r) is (inr (text.0, l.games, text.1, h)))));
+    }

@@ -1,5 +1,6 @@
 use Rattle.std.proofs.Common.{inr, refl, subst, List, ℕ}
 use Rattle.pg_checker.specs.Cuts.{any_rules_by, rules_by}
+use Rattle.pg_checker.specs.Opening.{bytes_of}
 use Rattle.pg_checker.specs.Terms.{terms}
 use Rattle.pg_report.specs.Run.{failures}
 use Rattle.pg_guide.specs.Why.{IsOneLine, IsWhyFault}
@@ -22,22 +23,22 @@ returns-in-Ok g c =
 
 pub returns-in-Err-clause-err : goal.returns-in-Err-clause-err
 returns-in-Err-clause-err g c =
-    let t = terms (rules_by (λ b. (goal.Bound-dyn g (b.vtable, b.value)).code_of b.value) (λ b. (goal.Bound-dyn g (b.vtable, b.value)).excluded b.value) c.args.bounds.now) c.records_of-records.result 4194304 (g.S.Source.left c.args.source.now) in
-    let any = terms (any_rules_by (λ b. (goal.Bound-dyn g (b.vtable, b.value)).code_of b.value) (λ b. (goal.Bound-dyn g (b.vtable, b.value)).excluded b.value) c.args.bounds.now) c.records_of-records.result 4194304 (g.S.Source.left c.args.source.now) in
+    let t = terms (rules_by (λ b. (goal.Bound-dyn g (b.vtable, b.value)).code_of b.value) (λ b. (goal.Bound-dyn g (b.vtable, b.value)).excluded b.value) c.args.bounds.now) c.records_of-records.result 4194304 (bytes_of c.args.opened.now (g.S.Source.left c.args.source.now)) in
+    let any = terms (any_rules_by (λ b. (goal.Bound-dyn g (b.vtable, b.value)).code_of b.value) (λ b. (goal.Bound-dyn g (b.vtable, b.value)).excluded b.value) c.args.bounds.now) c.records_of-records.result 4194304 (bytes_of c.args.opened.now (g.S.Source.left c.args.source.now)) in
     let failed = failures (g.S.Source.has_failed c.why.new.source) (g.W.Sink.has_failed c.why.new.out.inner) in (
       c.records_of-records.result,
       c.records_of-records.ensures,
       (
         c.in-Err.fault,
         c.refusal_of.ensures,
-        subst (λ (x : List ℕ). IsWhyFault x t any c.args.problem.now.diagram c.args.problem.now.length failed c.in-Err.fault) c.text_of-moves.ensures c.in-Err.ensures.err,
+        subst (λ (x : List ℕ). IsWhyFault x t any c.args.opened.now.diagram c.args.opened.now.plies failed c.in-Err.fault) c.text_of-moves.ensures c.in-Err.ensures.err,
       ),
     )
 
 pub returns-in-Err-clause-silent : goal.returns-in-Err-clause-silent
 returns-in-Err-clause-silent g c =
-    let t = terms (rules_by (λ b. (goal.Bound-dyn g (b.vtable, b.value)).code_of b.value) (λ b. (goal.Bound-dyn g (b.vtable, b.value)).excluded b.value) c.args.bounds.now) c.records_of-records.result 4194304 (g.S.Source.left c.args.source.now) in
-    or_list t c.args.problem.now.diagram c.args.problem.now.length c.why.ensures.silent
+    let t = terms (rules_by (λ b. (goal.Bound-dyn g (b.vtable, b.value)).code_of b.value) (λ b. (goal.Bound-dyn g (b.vtable, b.value)).excluded b.value) c.args.bounds.now) c.records_of-records.result 4194304 (bytes_of c.args.opened.now (g.S.Source.left c.args.source.now)) in
+    or_list t c.args.opened.now.diagram c.args.opened.now.plies c.why.ensures.silent
 
 pub returns-in-Err-clause-unwritten : goal.returns-in-Err-clause-unwritten
 returns-in-Err-clause-unwritten g c = explained_alone c.in-Err.fault c.refusal_of.result _ c.refusal_of.ensures c.in-Err.ensures.unwritten

@@ -1,0 +1,37 @@
+-- What a status or a refusal says, it says of what is asked.
+use Rattle.std.proofs.Common.{subst}
+use Rattle.clap.specs.Words.{found_of, rows_of}
+use Rattle.pg_checker.specs.Opening.{OpenedState}
+use Rattle.pg_cli.specs.Answers.{IsGivenBy}
+use Rattle.pg_cli.specs.Words.{says_of_certificate}
+use Rattle.pg_cli.proofs.EndLemmas.{opened_there, said_as, unsaid_as}
+use Rattle.pg_cli.proofs.StatusLemmas.{claims_nothing, tells, tells_why}
+use Rattle.pg_cli.proofs.lend.Goals as goal
+
+pub returns-in-Words : goal.returns-in-Words
+returns-in-Words g c =
+    let rows = rows_of (found_of c.args.words.now) in
+    let gives = IsGivenBy g.R.File.Read.remaining g.R.Reader.Read.remaining in
+    record {
+      ok = tells c.on_problem.result _ _ c.on_problem.ensures.ok (λ s h. said_as gives rows c.args.asked _ s c.in-Words.is h);
+      err = tells_why c.on_problem.result _ _ c.on_problem.ensures.err (λ r h. unsaid_as rows c.args.asked _ r c.in-Words.is h);
+    }
+
+pub returns-in-File : goal.returns-in-File
+returns-in-File g c =
+    let rows = rows_of (found_of c.args.words.now) in
+    let gives = IsGivenBy g.R.File.Read.remaining g.R.Reader.Read.remaining in
+    record {
+      ok = tells c.tell.result _ _ c.tell.ensures (λ s h. said_as gives rows c.args.asked _ s c.in-File.is
+          (subst (λ (x : OpenedState). says_of_certificate c.in-File.command x.diagram x.plies s) (opened_there _ _ c.deref_mut.ensures.value) h));
+      err = tells_why c.tell.result _ _ (claims_nothing c.tell.result) (λ r h. unsaid_as rows c.args.asked _ r c.in-File.is h);
+    }
+
+pub returns : goal.returns
+returns g c =
+    let rows = rows_of (found_of c.args.words.now) in
+    let gives = IsGivenBy g.R.File.Read.remaining g.R.Reader.Read.remaining in
+    record {
+      ok = tells c.other.result _ _ c.other.ensures.ok (λ s h. said_as gives rows c.args.asked _ s c.in-Other.is h);
+      err = tells_why c.other.result _ _ c.other.ensures.err (λ r h. unsaid_as rows c.args.asked _ r c.in-Other.is h);
+    }
