@@ -56,6 +56,7 @@ fn opened_from<S: Source>(source: &mut S) -> Result<Opened, Refusal>
 //
 // # Errors
 // `Open` where the file is not opened, those of `opened_from`, and `Memory` where room for it was refused.
+#[inline(never)]
 fn certificate_of<R: Runtime + AllocGlobal>(
     rt: &R,
     words: &ArgMatches<'_>,
@@ -81,6 +82,7 @@ fn certificate_of<R: Runtime + AllocGlobal>(
 //
 // # Errors
 // Those of `certificate_of`. Words that spell no problem are told by the command.
+#[inline(never)]
 pub(crate) fn asked_by<R: Runtime + AllocGlobal>(
     rt: &R,
     command: Command,

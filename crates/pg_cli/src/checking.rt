@@ -53,6 +53,7 @@ pub(crate) fn finished<W: Sink>(status: u8, out: &mut Gathered<W>) -> Result<u8,
 //
 // # Errors
 // `Check` with the fault of the check. Nothing is written then, but where the sink refuses it.
+#[inline(never)]
 pub(crate) fn check_listed<S: Source, W: Sink>(
     alloc: Global,
     listed: &Listed,
@@ -115,6 +116,7 @@ pub(crate) fn check_on<S: Source, W: Sink>(
 }
 
 // Whether the list of games is to come from the file of the certificate, or from the same standard input.
+#[inline(never)]
 fn are_one<R: Runtime + AllocGlobal>(rt: &R, certificate: &str, games: Option<&str>) -> bool {
     match games {
         Some(games) if lead_to_one(rt, certificate, games) => true,

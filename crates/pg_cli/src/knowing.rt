@@ -111,6 +111,7 @@ fn listed_from<R: Runtime + AllocGlobal>(
 
 // The same with the list that the words name; standard input where they name none. Where somebody is to type it, it is
 // told before why there is no problem.
+#[inline(never)]
 pub(crate) fn read_listed<R: Runtime + AllocGlobal>(
     rt: &R,
     words: &ArgMatches<'_>,

@@ -44,6 +44,7 @@ pub(crate) struct Searched {
 //
 // # Errors `Memory` where a growth was refused for a game that was met; `Check` with `Listed` where such a game is no
 // solution, which should not be.
+#[inline(never)]
 pub(crate) fn search_to<R: Runtime + AllocGlobal, W: Write + Drop>(
     rt: &R,
     problem: &Problem,
@@ -243,6 +244,7 @@ fn begin_list<R: Runtime + AllocGlobal>(
 }
 
 // Begins the files of a search.
+#[inline(never)]
 fn begin_both<R: Runtime + AllocGlobal>(
     rt: &R,
     words: &ArgMatches<'_>,
@@ -276,6 +278,7 @@ fn put_list<R: Runtime + AllocGlobal>(rt: &R, list: Option<Draft<R::File>>) -> R
 }
 
 // Puts both files in their places, after a report.
+#[inline(never)]
 fn put_both<R: Runtime + AllocGlobal>(rt: &R, drafts: Drafts<R::File>) -> Result<(), Refusal>
     ensures { IfErr result IsOfFile }
 {
@@ -301,6 +304,7 @@ fn has_games(refusal: &Refusal) -> bool {
 
 // Ends a search that has no report: the certificate is taken away, and the list put in its place where the search gave
 // up and has games for it.
+#[inline(never)]
 fn end_both<R: Runtime + AllocGlobal>(rt: &R, drafts: Drafts<R::File>, refusal: Refusal) -> Refusal
     ensures { (result ≡ refusal) ⊎ IsOfFile result }
 {
