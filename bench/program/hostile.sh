@@ -377,11 +377,11 @@ for folder in 'check $queen 2.0 . games' 'check $queen 2.0 good.pgc .' 'games $q
   expect 4 'pg: cannot open .' "\"\$pg\" $folder"
 done
 expect 4 'pg: cannot open .' '"$pg" answer .'
-expect 4 'pg: cannot open /dev/stdin' 'cat good.pgc | "$pg" answer /dev/stdin'
+expect 0 '' 'cat good.pgc | "$pg" answer /dev/stdin | cmp - report'
 expect 4 'pg: cannot open .' '"$pg" why . -'
-expect 4 'pg: cannot open /dev/stdin' 'cat good.pgc | "$pg" why /dev/stdin -'
+expect 0 '' 'cat good.pgc | "$pg" why /dev/stdin - | tail -n 1' 'the certificate is right'
 expect 4 'pg: cannot open .' '"$pg" page .'
-expect 4 'pg: cannot open /dev/stdin' 'cat good.pgc | "$pg" page /dev/stdin'
+expect 0 '' 'cat good.pgc | "$pg" page /dev/stdin | cmp - <("$pg" page good.pgc)'
 for full in '>&-' '>/dev/full'; do
   expect 4 'pg: write fault' '"$pg" moves "$position" '"$full"
   expect 4 'pg: write fault' '"$pg" count "$position" 2 '"$full"
