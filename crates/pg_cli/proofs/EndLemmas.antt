@@ -107,7 +107,11 @@ pub problem_refused : (command : Command) (of : ProblemCommand) (rows : List Row
 problem_refused command Games rows given refusal e w h = refused_as command (OfProblem Games) rows refusal e tt
 problem_refused command Cooks rows given refusal e w h = refused_as command (OfProblem Cooks) rows refusal e tt
 problem_refused command Check rows given refusal e w h = refused_as command (OfProblem Check) rows refusal e (words_refused IsUnchecked rows given refusal w h)
-problem_refused command Search rows given refusal e w h = refused_as command (OfProblem Search) rows refusal e (words_refused IsSearchRefusal rows given refusal w h)
+problem_refused command Search rows given refusal e w (inl h) = refused_as command (OfProblem Search) rows refusal e (inl h)
+problem_refused command Search rows given refusal e w (inr (inl h)) =
+    refused_as command (OfProblem Search) rows refusal e (inr (inl (subst (λ (g : Result Problem Refusal). IsOfWords rows g) h w)))
+problem_refused command Search rows given refusal e w (inr (inr h)) =
+    refused_as command (OfProblem Search) rows refusal e (inr (inr (of_words rows given (λ d n. IsSearchRefusal d n refusal) w h)))
 
 -- of a refusal of a command on a certificate nothing is said
 pub certificate_unsaid : (command : Command) (of : CertificateCommand) (rows : List Row) (refusal : Refusal) → command ≡ OfCertificate of
@@ -171,6 +175,6 @@ unlisted_so given (Err r) text h = of_list given text r h
 
 -- a search for the games of a given problem has no report
 pub file_or_search : (given : Result Problem Refusal) (p : Problem) (refusal : Refusal) → given ≡ Ok p
-    → IsOfFile refusal ⊎ IsSearchRefusal p.diagram p.length refusal → IsRefusedFor IsSearchRefusal given refusal
-file_or_search given p refusal e (inl h) = inl (of_input refusal h)
+    → IsOfFile refusal ⊎ IsSearchRefusal p.diagram p.length refusal → refuses_problem Search given refusal
+file_or_search given p refusal e (inl h) = inl h
 file_or_search given p refusal e (inr h) = inr (inr (given_so given p (λ d n. IsSearchRefusal d n refusal) e h))

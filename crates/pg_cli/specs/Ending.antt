@@ -1,9 +1,10 @@
 -- With which status the program ends: that of a command's answer, or that of its refusal, by what each says of the words.
-use Rattle.std.specs.Prelude.{◌≡◌, ◌⊎◌, ℕ, Bool, List, Result, codes}
+use Rattle.std.specs.Prelude.{◌≡◌, ◌⊎◌, ℕ, Bool, List, Result, Err, codes}
 use Rattle.clap.specs.Words.{Row, Text}
 use Rattle.clap.specs.declared.parser.matches.ArgMatches.{ArgMatches}
 use Rattle.pg_board.specs.Placement.{Placement}
 use Rattle.pg_checker.specs.declared.problem.Problem.{Problem}
+use Rattle.pg_cli.specs.Answers.{OfGiven}
 use Rattle.pg_cli.specs.Refusals.{refusal_status}
 use Rattle.pg_cli.specs.Runs.{IsCountRefusal, IsMovesRefusal, IsOfFile, IsOfInput, IsOfProblem, IsRefusedFor, IsSearchRefusal, IsShowRefusal, IsUnchecked}
 use Rattle.pg_cli.specs.Words.{IsSpelled, IsStatus, OfCommand, OfPlies, spelled}
@@ -31,7 +32,8 @@ IsRefusedWith Is rows refusal = IsOfInput refusal ⊎ (IsOfProblem rows refusal
 -- the same of a command on a problem that is given; of those that are not here nothing is said
 abbrev pub refuses_problem : ProblemCommand → Result Problem Refusal → Refusal → Type 0
 refuses_problem Check given refusal = IsRefusedFor IsUnchecked given refusal
-refuses_problem Search given refusal = IsRefusedFor IsSearchRefusal given refusal
+refuses_problem Search given refusal =
+    IsOfFile refusal ⊎ ((given ≡ Err refusal) ⊎ OfGiven given (λ d n. IsSearchRefusal d n refusal))
 refuses_problem command given refusal = Unit {0}
 
 -- what a refusal says of a command with these words. Of those that are not here it says nothing: why they have no status
@@ -43,7 +45,8 @@ refuses (Other Count) rows refusal =
     (failed : Bool) × OfPlies rows (λ plies. IsCountRefusal (spelled (codes "FEN") rows) plies failed refusal)
 refuses (Other Judge) rows refusal = IsOfFile refusal
 refuses (OfProblem Check) rows refusal = IsRefusedWith IsUnchecked rows refusal
-refuses (OfProblem Search) rows refusal = IsRefusedWith IsSearchRefusal rows refusal
+refuses (OfProblem Search) rows refusal = IsOfFile refusal ⊎ (IsOfProblem rows refusal
+    ⊎ ((d : Placement) × (n : ℕ) × IsSpelled rows d n × IsSearchRefusal d n refusal))
 refuses command rows refusal = Unit {0}
 
 -- what a refusal says of the command that the words name

@@ -7,7 +7,8 @@ ghost use Rattle.pg_streams.specs.Buffer.{sink_of};
 ghost use Rattle.pg_texts.specs.Report.{IsReport};
 ghost use Rattle.clap.specs.Words.{first_of, found_of, rows_of};
 ghost use Rattle.pg_cli.specs.Answers.{HasAnswer, IsAnswered, OfGiven};
-ghost use Rattle.pg_cli.specs.Runs.{AreMet, IsGivenUp, IsOfFile, IsOfSink, IsRefusedFor, IsSearchRefusal};
+ghost use Rattle.pg_cli.specs.Ending.{refuses_problem};
+ghost use Rattle.pg_cli.specs.Runs.{AreMet, IsGivenUp, IsOfFile, IsOfSink, IsSearchRefusal};
 ghost use Rattle.pg_cli.specs.Runs.{search_refusal};
 ghost use Rattle.pg_cli.specs.Words.{says_of_problem};
 ghost use Rattle.pg_cli.specs.declared.commands.ProblemCommand.TheVariants.{Search as TheSearch};
@@ -364,7 +365,7 @@ pub(crate) fn search<R: Runtime + AllocGlobal>(
     screen: bool,
 ) -> Result<u8, Refusal>
     ensures ok { IfOk result (λ status. OfGiven problem (λ d n. says_of_problem TheSearch d n status)) }
-    ensures err { IfErr result (IsRefusedFor IsSearchRefusal problem) }
+    ensures err { IfErr result (refuses_problem TheSearch problem) }
 {
     let problem = match problem {
         Ok(problem) => problem,
