@@ -15,7 +15,7 @@ mod with;
 mod with_all;
 
 pub use costs::{Costs, NONE};
-pub use prices::{LeastPrices, least_prices};
+pub use prices::{LeastPrices, least_columns, least_prices};
 pub use tested::least_total;
 pub use totals::{LeastTotals, least_totals};
 pub use with_all::least_with_all;

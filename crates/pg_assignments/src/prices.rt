@@ -1,7 +1,11 @@
-//! Prices of least assignments, for callers that test them themselves. Nothing is proved of them but that they come.
+//! Prices of least assignments, for callers that test them themselves, and such assignments. Nothing is proved of them
+//! but that they come.
+ghost use Rattle.std.specs.Prelude.{◌≤◌};
 
+use crate::columns::least_of_columns;
 use crate::costs::Costs;
 use crate::propose::{Row, START, propose};
+use crate::tested::value;
 use std::simd::u8x16;
 
 /// Prices of rows and of sixteen columns. Those of rows behind the ones that were asked for are 0.
@@ -48,5 +52,17 @@ pub fn least_prices(costs: &[[u8; 16]; 16], rows: usize, most: u8) -> LeastPrice
     LeastPrices {
         rows: above_start(proposal.rows),
         columns: above_start(proposal.columns),
+    }
+}
+
+/// A column for each row, which no other row has: an assignment that is meant to be a least one, where each row goes to
+/// a column that it may go to. None where none is found. What stands behind the rows means nothing.
+pub fn least_columns(costs: &Costs) -> Option<[u8; 16]>
+    requires { costs.now.size ≤ 16 }
+{
+    let proposal = propose(costs, costs.size, least_of_columns(costs));
+    match value(costs, &proposal.to, &proposal.holder) {
+        None => None,
+        Some(_) => Some(proposal.to),
     }
 }

@@ -14,7 +14,7 @@ ghost use Rattle.pg_tolls.specs.inner.Remembering.{IsTight};
 ghost use Rattle.pg_tolls.specs.inner.Tables.{raised};
 
 use crate::half::Half;
-use crate::tables::tables_of;
+use crate::tables::{tables_of, untested_tables};
 use crate::tariff::Tariff;
 use pg_board::{Board, Color, Kind, Square, SquareSet};
 use pg_captures::all_men;
@@ -96,6 +96,30 @@ pub(crate) fn half_of(
         color: ground.color,
         weight: tariff.weight(ground.color),
         lost,
+        free: ground.free,
+        goals,
+        rows,
+    })
+}
+
+// The half of a colour with a table for up to so many marks, which is not tested.
+pub(crate) fn untested_half(
+    alloc: Global,
+    tariff: &Tariff,
+    goal: &Board,
+    ground: &Ground,
+    most: usize,
+) -> Result<Half, AllocError>
+    requires ground { IsGround ground.now }
+    requires most { most ≤ 16 }
+{
+    let goals = goals_of(goal, ground.color);
+    let weight = tariff.weight(ground.color);
+    let rows = untested_tables(alloc, tariff, ground, &goals, most)?;
+    Ok(Half {
+        color: ground.color,
+        weight,
+        lost: lost_by(tariff, ground.color.other()),
         free: ground.free,
         goals,
         rows,

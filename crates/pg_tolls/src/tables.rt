@@ -51,3 +51,18 @@ pub(crate) fn tables_of(
         Ok(Vec::new(alloc))
     }
 }
+
+/// The same table for up to so many marks, which is not tested.
+pub(crate) fn untested_tables(
+    alloc: Global,
+    tariff: &Tariff,
+    ground: &Ground,
+    goals: &Men,
+    most: usize,
+) -> Result<Vec<[u16; 16]>, AllocError>
+    requires sound { IsGround ground.now }
+    requires most { most ≤ 16 }
+{
+    look_at_tolls(tariff, ground.color.other());
+    fill(alloc, tariff, ground, goals, most)
+}

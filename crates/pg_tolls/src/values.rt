@@ -23,7 +23,7 @@ use pg_journeys::{charge, men_without, span};
 use pg_position::{Position, Wing};
 
 // The sum of the first so many numbers.
-fn sum(row: &Row, count: usize) -> u32
+pub(crate) fn sum(row: &Row, count: usize) -> u32
     requires { count ≤ 16 }
     ensures value { result ≡ total (λ i. get_or row.now i 0) count }
     ensures low { result ≤ 1048560 }
@@ -115,7 +115,7 @@ fn bound(half: &Half, uncastled: Option<u32>, spared: u32) -> u32
 }
 
 // Whether a castling is open to the colour of a half.
-fn is_open(half: &Half, position: &Position, wing: Wing) -> bool
+pub(crate) fn is_open(half: &Half, position: &Position, wing: Wing) -> bool
     ensures { IsTrue result ↔ IsOpenWay half.now position.now (Some wing) }
 {
     position.rights().holds(half.color, wing) && (span(half.color, wing) - half.free).is_empty()
@@ -162,7 +162,7 @@ pub(crate) fn marks_of(half: &Half, diagram: &Diagram, position: &Position) -> u
 }
 
 // The men of a colour.
-fn party_of(half: &Half, diagram: &Diagram, position: &Position) -> Party
+pub(crate) fn party_of(half: &Half, diagram: &Diagram, position: &Position) -> Party
     requires { men half.now.color any_man position.now.board ≤ 16 }
     ensures party { IsPartyOf half.now position.now result }
     ensures marks { result.marks ≡ marks_for half.now diagram.now position.now.board }

@@ -1,5 +1,6 @@
-//! Tests of what no contract of `pg_assignments`, `pg_captures`, `pg_pawns`, `pg_travel`, `pg_journeys`, `pg_tolls` and
-//! `pg_prices` says. They stand apart, since a crate that has tests is proved twice, without them and with them.
+//! Tests of what no contract of `pg_assignments`, `pg_captures`, `pg_pawns`, `pg_travel`, `pg_journeys`, `pg_tolls`,
+//! `pg_tariffs` and `pg_prices` says. They stand apart, since a crate that has tests is proved twice, without them and
+//! with them.
 #![tactic(auto)]
 
 #[cfg(test)]
@@ -12,6 +13,8 @@ mod journeys;
 mod pawns;
 #[cfg(test)]
 mod prices;
+#[cfg(test)]
+mod tariffs;
 #[cfg(test)]
 mod texts;
 #[cfg(test)]
