@@ -3,16 +3,18 @@ ghost use Rattle.std.specs.Prelude.{◌≡◌, ◌≤◌};
 ghost use Rattle.pg_searcher.specs.Refusals.{RefusesTruly};
 
 use crate::fault::SearchFault;
-use crate::judge::{Asked, Judge, journeys_among};
-use crate::machine::{Findings, Frames, Machine, Question, Recorder, written};
+use crate::judge::{Judge, journeys_among};
+use crate::machine::{Asking, Findings, Frames, Machine, Question, Recorder, written};
 use crate::progress::SearchProgress;
+use crate::tolled::Tolled;
 use crate::walk::tree_of;
 use pg_captures::Bound;
 use pg_certificate::{Header, Sink};
 use pg_fen::{Diagram, Length};
 use pg_moves::Unwatched;
 use pg_san::Games;
-use std::alloc::Global;
+use pg_tolls::Tariff;
+use std::alloc::{AllocError, Global};
 
 // The header of the certificate.
 fn header(diagram: &Diagram, plies: u8) -> Header
@@ -51,14 +53,14 @@ fn write<W: Sink, P: SearchProgress>(
 
 // How far a search goes: to games of a length, and over how many nodes at most.
 #[derive(Clone, Copy)]
-struct Reach {
-    length: Length,
-    max_nodes: u64,
+pub(crate) struct Reach {
+    pub(crate) length: Length,
+    pub(crate) max_nodes: u64,
 }
 
 // What a search that gives up says. A write that is refused leaves the sink failed, and a tree is shorter where it has
 // fewer plies than the last; that they say so truly is tested here once, so that no call below has to promise it.
-fn refused<W: Sink>(fault: SearchFault, plies: u8, sink: &W) -> Result<Games, SearchFault>
+pub(crate) fn refused<T, W: Sink>(fault: SearchFault, plies: u8, sink: &W) -> Result<T, SearchFault>
     ensures { RefusesTruly plies (W.has_failed sink.now) result }
 {
     match fault {
@@ -70,37 +72,74 @@ fn refused<W: Sink>(fault: SearchFault, plies: u8, sink: &W) -> Result<Games, Se
     }
 }
 
-// What a search comes to, which cuts by journeys too where they are asked.
-fn searched<W: Sink, P: SearchProgress>(
+// What a walk over all trees leaves: the games that it met, the tariffs that it asked, and how many nodes more it might
+// have visited.
+#[derive(Drop)]
+pub(crate) struct Walked {
+    pub(crate) games: Games,
+    pub(crate) tolls: Option<Box<Tolled>>,
+    pub(crate) left: u64,
+}
+
+// The walk over all trees, which cuts by journeys and by tariffs too where they are asked. Of what it refuses `refused`
+// says what is told.
+pub(crate) fn walk_all<W: Sink, P: SearchProgress>(
     alloc: Global,
     diagram: &Diagram,
     reach: &Reach,
-    journeys: Option<Asked<'_>>,
+    asking: Asking<'_>,
     sink: &mut W,
     watch: &mut P,
-) -> Result<Games, SearchFault>
-    ensures { RefusesTruly reach.now.length (W.has_failed sink.new) result }
-{
+) -> Result<Walked, SearchFault> {
     let Ok(judge) = Judge::new(alloc, diagram) else {
         return Err(SearchFault::Memory);
     };
     let mut frames = Frames::new(alloc);
     let mut machine = Machine {
         open: 0,
-        recorder: Recorder::new(alloc, judge, reach.max_nodes, journeys),
+        recorder: Recorder::new(alloc, judge, reach.max_nodes, asking),
         findings: Findings {
             games: Games::new(alloc),
             fertile: false,
         },
     };
-    let plies = reach.length.plies();
-    match write(diagram, plies, &mut frames, &mut machine, sink, watch) {
-        Ok(()) => {}
-        Err(fault) => return refused(fault, plies, sink),
-    }
-    let Machine { findings, .. } = machine;
+    write(
+        diagram,
+        reach.length.plies(),
+        &mut frames,
+        &mut machine,
+        sink,
+        watch,
+    )?;
+    let Machine {
+        recorder,
+        findings,
+        ..
+    } = machine;
+    let Recorder { output, tolls, .. } = recorder;
     let Findings { games, .. } = findings;
-    Ok(games)
+    Ok(Walked {
+        games,
+        tolls,
+        left: output.budget.nodes,
+    })
+}
+
+// The games of a search that asks so much of its nodes.
+fn searched<W: Sink, P: SearchProgress>(
+    alloc: Global,
+    diagram: &Diagram,
+    reach: &Reach,
+    asking: Asking<'_>,
+    sink: &mut W,
+    watch: &mut P,
+) -> Result<Games, SearchFault>
+    ensures { RefusesTruly reach.now.length (W.has_failed sink.new) result }
+{
+    match walk_all(alloc, diagram, reach, asking, sink, watch) {
+        Ok(walked) => Ok(walked.games),
+        Err(fault) => refused(fault, reach.length.plies(), sink),
+    }
 }
 
 /// Searches for the games of a length from the initial array that end on the diagram, and
@@ -147,7 +186,11 @@ pub fn search_watched<W: Sink, P: SearchProgress>(
     ensures { RefusesTruly length (W.has_failed sink.new) result }
 {
     let reach = Reach { length, max_nodes };
-    searched(alloc, diagram, &reach, None, sink, watch)
+    let asking = Asking {
+        journeys: None,
+        tolls: None,
+    };
+    searched(alloc, diagram, &reach, asking, sink, watch)
 }
 
 /// As `search_watched`, and cuts by journeys too: a node with at least two plies left that no other bound and no
@@ -172,5 +215,54 @@ pub fn search_by_journeys<'a, W: Sink, P: SearchProgress>(
 {
     let reach = Reach { length, max_nodes };
     let journeys = journeys_among(diagram, bounds);
-    searched(alloc, diagram, &reach, journeys, sink, watch)
+    let asking = Asking {
+        journeys,
+        tolls: None,
+    };
+    searched(alloc, diagram, &reach, asking, sink, watch)
+}
+
+// The tariffs of a search, where there are any.
+fn tolls_by(
+    alloc: Global,
+    diagram: &Diagram,
+    tariffs: &[Tariff],
+) -> Result<Option<Box<Tolled>>, AllocError> {
+    if tariffs.is_empty() {
+        return Ok(None);
+    }
+    Ok(Some(Tolled::fixed(alloc, diagram, tariffs)?))
+}
+
+/// As `search_by_journeys`, and cuts by tariffs too, the first 250 of those that it is handed: a node with at least
+/// two plies left that no other bound and no prices exclude, and that does not refer to a closed node, is cut where a
+/// tariff excludes of the few that are tried first; else where journeys do, if they are lent; else, with at least six
+/// plies left, where any tariff does. A tariff's code is `pg_tolls::Tolls::FIRST_CODE` and its number from 0. So a
+/// check of what was written wants beside the bounds of `search_by_journeys` a `pg_tolls::Tolls` of each tariff by its
+/// code. Which are tried first goes by the nodes before and not by time, so the number of nodes is fixed. With no
+/// tariffs it is `search_by_journeys`. `find_tariffs` finds some.
+///
+/// # Errors
+/// As for `search_by_journeys`.
+pub fn search_by_tolls<'a, W: Sink, P: SearchProgress>(
+    alloc: Global,
+    diagram: &'a Diagram,
+    length: Length,
+    max_nodes: u64,
+    bounds: &'a [Box<dyn Bound>],
+    tariffs: &[Tariff],
+    sink: &mut W,
+    watch: &mut P,
+) -> Result<Games, SearchFault>
+    ensures { RefusesTruly length (W.has_failed sink.new) result }
+{
+    let reach = Reach { length, max_nodes };
+    let Ok(tolls) = tolls_by(alloc, diagram, tariffs) else {
+        return Err(SearchFault::Memory);
+    };
+    let asking = Asking {
+        journeys: journeys_among(diagram, bounds),
+        tolls,
+    };
+    searched(alloc, diagram, &reach, asking, sink, watch)
 }

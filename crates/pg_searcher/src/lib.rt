@@ -4,6 +4,7 @@
 #![tactic(auto)]
 
 mod budget;
+mod choosing;
 mod ends;
 mod expected;
 mod fault;
@@ -18,11 +19,14 @@ mod node;
 mod outlook;
 mod progress;
 mod sides;
+mod tariffs;
+mod tolled;
+mod unkept;
 mod walk;
 
 pub use expected::{Leeway, forecast, next_tree, slacks};
 pub use fault::SearchFault;
-pub use find::{search, search_by_journeys, search_watched};
+pub use find::{search, search_by_journeys, search_by_tolls, search_watched};
 pub use judge::sides_of;
 pub use led::{
     Game, Led, LedEnd, LedFault, LedLimits, LedProgress, search_led, search_led_without_journeys,
@@ -31,3 +35,4 @@ pub use met::Met;
 pub use nearing::may_lead;
 pub use progress::SearchProgress;
 pub use sides::{Change, Changes, Side, Sides, changes_of};
+pub use tariffs::{FoundTariffs, find_tariffs};

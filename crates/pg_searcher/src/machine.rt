@@ -5,6 +5,7 @@ use crate::fault::SearchFault;
 use crate::judge::{Asked, CutBy, Judge};
 use crate::outlook::Outlook;
 use crate::sides::Sides;
+use crate::tolled::Tolled;
 use pg_certificate::format::MOST_NAMED;
 use pg_certificate::{Record, RecordWriter, Sink, WriteFault};
 use pg_fen::Diagram;
@@ -134,6 +135,15 @@ impl Output<'_> {
         written(self.writer.put_cut(bound.code(), sink))
     }
 
+    // Writes a cut by the bound with a code.
+    pub(crate) fn cut_by_code<W: Sink>(
+        &mut self,
+        code: u8,
+        sink: &mut W,
+    ) -> Result<(), SearchFault> {
+        written(self.writer.put_cut(code, sink))
+    }
+
     // Writes `count` cuts by a bound.
     pub(crate) fn cuts<W: Sink>(
         &mut self,
@@ -153,25 +163,30 @@ impl Output<'_> {
     }
 }
 
-// What chooses the record of each node, the certificate to which it goes, and the node that opened last, which each
-// `true` that is handed back speaks of: handed back itself by each call between the one that opens it and the one that
-// makes its frame, it would be copied at each, also where none has opened.
+// What chooses the record of each node, the certificate to which it goes, the tariffs, where they are asked, which are
+// many bytes and so in a box, and the node that opened last, which each `true` that is handed back speaks of: handed
+// back itself by each call between the one that opens it and the one that makes its frame, it would be copied at each,
+// also where none has opened.
 #[derive(Drop)]
 pub(crate) struct Recorder<'a> {
     pub(crate) judge: Judge,
     pub(crate) output: Output<'a>,
+    pub(crate) tolls: Option<Box<Tolled>>,
     pub(crate) opened: Opened,
 }
 
+// What is asked of a node beside the bounds and prices that each search asks: journeys, and tariffs.
+#[derive(Drop)]
+pub(crate) struct Asking<'a> {
+    pub(crate) journeys: Option<Asked<'a>>,
+    pub(crate) tolls: Option<Box<Tolled>>,
+}
+
 impl<'a> Recorder<'a> {
-    // Of a certificate of which nothing is written, with `nodes` nodes that may be visited. Where journeys are handed
-    // in, nodes are cut by them.
-    pub(crate) fn new(
-        alloc: Global,
-        judge: Judge,
-        nodes: u64,
-        journeys: Option<Asked<'a>>,
-    ) -> Recorder<'a> {
+    // Of a certificate of which nothing is written, with `nodes` nodes that may be visited. Where journeys or tariffs
+    // are handed in, nodes are cut by them.
+    pub(crate) fn new(alloc: Global, judge: Judge, nodes: u64, asking: Asking<'a>) -> Recorder<'a> {
+        let Asking { journeys, tolls } = asking;
         Recorder {
             judge,
             output: Output {
@@ -180,6 +195,7 @@ impl<'a> Recorder<'a> {
                 budget: Budget { nodes },
                 journeys,
             },
+            tolls,
             opened: Opened {
                 position: Position::array(),
                 sides: Sides::none(),

@@ -6,6 +6,7 @@ use crate::judge::{CutBy, Cutting, Judge, is_cut_by_journeys};
 use crate::machine::{Opened, Output, Question, Recorder};
 use crate::outlook::{Outlook, PlainMove};
 use crate::sides::{Sides, changes_of, lifted};
+use crate::tolled::{Tolled, keys_of};
 use pg_board::{Color, Square};
 use pg_certificate::{Record, Sink};
 use pg_fen::Diagram;
@@ -95,9 +96,47 @@ fn open<W: Sink>(
     Ok(true)
 }
 
-// A node to which nothing refers, and that no other cut excludes, is cut by journeys where they are asked and exclude
-// it; otherwise it is open from now on. Journeys are asked of the position and not of the key, which has the passed
-// square only where a capture there is legal.
+// The code by which tariffs or journeys exclude a node, where tariffs are asked.
+fn code_excluding(
+    tolls: &mut Tolled,
+    output: &Output,
+    position: &Position,
+    sides: &Sides,
+    left: u8,
+) -> Result<Option<u8>, SearchFault> {
+    match tolls.code_excluding(output.journeys, position, keys_of(sides), left) {
+        Ok(code) => Ok(code),
+        Err(_) => Err(SearchFault::Memory),
+    }
+}
+
+// As `open_or_cut` where tariffs are asked. It stands out of line, as what asks journeys does.
+#[inline(never)]
+fn open_or_tolled<W: Sink>(
+    recorder: &mut Recorder,
+    sink: &mut W,
+    position: &Position,
+    sides: &Sides,
+    node: Keyed,
+) -> Result<bool, SearchFault> {
+    let Some(tolls) = &mut recorder.tolls else {
+        return open(recorder, sink, position, sides, node.key);
+    };
+    match code_excluding(tolls, &recorder.output, position, sides, node.left)? {
+        Some(code) => {
+            recorder.output.cut_by_code(code, sink)?;
+            Ok(false)
+        }
+        None => {
+            tolls.opens(node.left, recorder.output.budget.nodes);
+            open(recorder, sink, position, sides, node.key)
+        }
+    }
+}
+
+// A node to which nothing refers, and that no other cut excludes, is cut by tariffs or journeys where they are asked
+// and exclude it; otherwise it is open from now on. They are asked of the position and not of the key, which has the
+// passed square only where a capture there is legal.
 fn open_or_cut<W: Sink>(
     recorder: &mut Recorder,
     sink: &mut W,
@@ -105,6 +144,9 @@ fn open_or_cut<W: Sink>(
     sides: &Sides,
     node: Keyed,
 ) -> Result<bool, SearchFault> {
+    if recorder.tolls.is_some() {
+        return open_or_tolled(recorder, sink, position, sides, node);
+    }
     if !is_cut_by_journeys(recorder.output.journeys, position, node.left) {
         return open(recorder, sink, position, sides, node.key);
     }
@@ -113,8 +155,8 @@ fn open_or_cut<W: Sink>(
 }
 
 // A node that no cut by other bounds or by prices excludes, with `left` plies left, at least two: a reference where
-// one of the same future has closed barren; otherwise it is open from now on, unless it is cut by journeys. The answer
-// is whether it is open, here and below.
+// one of the same future has closed barren; otherwise it is open from now on, unless it is cut by tariffs or journeys.
+// The answer is whether it is open, here and below.
 fn stay<W: Sink>(
     recorder: &mut Recorder,
     sink: &mut W,

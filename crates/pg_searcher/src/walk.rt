@@ -13,6 +13,7 @@ use crate::nearing::{may_be_near, may_lead};
 use crate::node::{Uncut, child, enter};
 use crate::outlook::{Mover, Outlook, Plain};
 use crate::progress::SearchProgress;
+use crate::tolled::keys_of;
 use pg_board::SquareSet;
 use pg_certificate::Sink;
 use pg_fen::Diagram;
@@ -280,8 +281,41 @@ fn next_opened_at<W: Sink>(
     }
 }
 
-// The moves of the topmost node are played until a node opens, which is the topmost from now on; where none does it
-// closes.
+// Whether an open node with `left` plies left, to which the walk comes back, is excluded by a tariff: it is asked of all
+// that are kept, and a new one is looked for, where no game below it ends on the diagram so far, a move is left, and
+// enough nodes were visited since it opened.
+fn is_tolled(top: &Frame, left: u8, recorder: &mut Recorder) -> Result<bool, SearchFault> {
+    let nodes = recorder.output.budget.nodes;
+    let Some(tolls) = &mut recorder.tolls else {
+        return Ok(false);
+    };
+    if top.fertile || !tolls.is_due(left, nodes) || top.moves.peek().is_none() {
+        return Ok(false);
+    }
+    let position = top.moves.position();
+    match tolls.look(&position, keys_of(&top.outlook.sides), left, nodes) {
+        Ok(is_excluded) => Ok(is_excluded),
+        Err(_) => Err(SearchFault::Memory),
+    }
+}
+
+// As `is_tolled`, of the node at a place. It stands out of line: where no tariffs are asked nothing is to make room for
+// what it needs.
+#[inline(never)]
+fn is_tolled_at(
+    frames: &Frames,
+    at: usize,
+    left: u8,
+    recorder: &mut Recorder,
+) -> Result<bool, SearchFault> {
+    match frames.get(at) {
+        Some(top) => is_tolled(top, left, recorder),
+        None => Ok(false),
+    }
+}
+
+// The moves of the topmost node are played until a node opens, which is the topmost from now on; where none does, or a
+// tariff excludes the node itself, it closes. After its moves `left` plies are left.
 fn play_until_opened<W: Sink>(
     question: &Question,
     left: u8,
@@ -294,6 +328,10 @@ fn play_until_opened<W: Sink>(
 {
     let at = usize::from(machine.open).saturating_sub(1);
     let fertile = machine.findings.fertile;
+    let is_asked = machine.recorder.tolls.is_some() && !fertile;
+    if is_asked && is_tolled_at(frames, at, left.saturating_add(1), &mut machine.recorder)? {
+        return close_top(frames, machine);
+    }
     machine.findings.fertile = false;
     match next_opened_at(question, frames, at, fertile, &mut machine.recorder, sink) {
         Ok(true) => {

@@ -7,6 +7,7 @@ mod journeys;
 mod met;
 mod nodes;
 mod refused_writes;
+mod tolls;
 
 use crate::shared::{Goal, Said, field, games_of, goal_of, halves, number, words};
 use pg_captures::{Bound, Captures, Promotions};

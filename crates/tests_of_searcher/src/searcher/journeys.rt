@@ -9,14 +9,17 @@ use pg_moves::Unwatched;
 use pg_trial::Never;
 
 // The four bounds and that by journeys.
-fn five_bounds<R: Abort + AllocGlobal>(rt: &R, diagram: &Diagram) -> Vec<Box<dyn Bound>> {
+pub(super) fn five_bounds<R: Abort + AllocGlobal>(
+    rt: &R,
+    diagram: &Diagram,
+) -> Vec<Box<dyn Bound>> {
     let mut bounds = four_bounds(rt.alloc());
     add(&mut bounds, journeys_to(rt, diagram));
     bounds
 }
 
 // What a search finds that is lent these bounds.
-fn searched_by_journeys<W: Sink>(
+pub(super) fn searched_by_journeys<W: Sink>(
     alloc: Global,
     goal: &Goal,
     nodes: u64,
