@@ -1,6 +1,6 @@
 //! Files that are read, and lists of games, read whole. Of what a file holds, and of what stands in a folder, std says
 //! nothing: it says what a reader gives from here on, where that is known.
-ghost use Rattle.std.specs.Prelude.{◌≡◌, ◌≤◌, ◌<◌, ◌⊎◌, ◌++◌, ◌↔◌, ℕ, List, length, codes};
+ghost use Rattle.std.specs.Prelude.{◌≡◌, ◌+◌, ◌≤◌, ◌<◌, ◌⊎◌, ◌++◌, ◌↔◌, ℕ, List, length, codes};
 ghost use Rattle.std.specs.Prelude.{IfErr, IfOk, IfSome, IsFalse, IsOk, OnOk};
 ghost use Rattle.std.specs.Io.KnownBytes.{Consumes, IsAtEnd};
 ghost use Rattle.either.specs.Either.{either, is_left};
@@ -117,6 +117,7 @@ fn read_more<R: Read>(
     ensures came { OnOk result ((more : List ℕ) × (bytes.new.items ≡ bytes.old.items ++ more)
         × Consumes (R.remaining reader.old) (R.remaining reader.new) more) }
     ensures end { IfOk result (λ n. n ≡ 0 → 0 < length buffer.old → IsAtEnd (R.remaining reader.new)) }
+    ensures few { OnOk result (length bytes.new.items ≤ length bytes.old.items + length buffer.old) }
     ensures limit { OnOk result (length bytes.new.items ≤ 16777216) }
     ensures fault { IfErr result IsNotRead }
 {
@@ -145,6 +146,29 @@ pub fn read_all<R: Read>(alloc: Global, reader: &mut R) -> Result<Vec<u8>, FileF
     let mut buffer = [0u8; 4096];
     for _ in 0..u64::MAX {
         if read_more(&mut bytes, reader, &mut buffer)? == 0 {
+            return Ok(bytes);
+        }
+    }
+    Err(FileFault::Read)
+}
+
+/// The next bytes of a reader, so many; fewer only where no more are left. A fault is not tried again.
+///
+/// # Errors
+/// `Read` where a read has failed, or where they are more than 16,777,216. `Memory` where a growth is refused.
+#[tactic(auto, using(crate::proofs::Whole::no_read, crate::proofs::Whole::read_on))]
+pub fn read_front<R: Read>(alloc: Global, reader: &mut R, most: usize) -> Result<Vec<u8>, FileFault>
+    ensures bytes { IfOk result (λ bytes.
+        Consumes (R.remaining reader.old) (R.remaining reader.new) bytes.items) }
+    ensures end { IfOk result (λ bytes. length bytes.items < most → IsAtEnd (R.remaining reader.new)) }
+    ensures few { IfOk result (λ bytes. length bytes.items ≤ most) }
+    ensures fault { IfErr result IsNotRead }
+{
+    let mut bytes = Vec::new(alloc);
+    let mut buffer = [0u8; 4096];
+    for _ in 0..u64::MAX {
+        let room = most.saturating_sub(bytes.len()).min(4096);
+        if read_more(&mut bytes, reader, &mut buffer[..room])? == 0 {
             return Ok(bytes);
         }
     }

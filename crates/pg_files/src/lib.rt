@@ -11,7 +11,9 @@ mod writing;
 
 pub use faults::{FileFault, Obstacle};
 pub use folders::make_folder;
-pub use input::{MOST_BYTES, first_bytes, is_missing, list, open, open_plain, read_all, size_of};
+pub use input::{
+    MOST_BYTES, first_bytes, is_missing, list, open, open_plain, read_all, read_front, size_of,
+};
 pub use names::{FileName, INPUT, is_input};
 pub use unnamed::nameless;
 pub use writing::{Draft, begin, begin_apart, begin_here, lead_to_one, stand_at_one};

@@ -1,0 +1,2 @@
+pub mod StatedLemmas
+pub mod ReadingLemmas
