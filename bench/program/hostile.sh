@@ -85,6 +85,10 @@ done <<END
 2|error: invalid value '256' for '--foreign <D>': 256 is not in 0..=255|cooks $array 0 list --foreign 256
 2|error: unexpected argument '--journeys' found|games $array 0 list --journeys
 2|error: unexpected value 'yes' for '--journeys' found|check $array 0 list list --journeys=yes
+2|error: unexpected value 'yes' for '--tolls' found|check $array 0 list list --tolls=yes
+2|error: unexpected argument '--no-journeys' found|check $array 0 list list --no-journeys
+2|error: unexpected argument '--tolls' found|answer list --tolls
+2|error: unexpected argument '--tolls' found|judge list --tolls
 2|error: unexpected argument '-1' found|cooks $array 0 list --nodes -1
 2|$lacks <PROBLEMS>|judge
 2|error: unexpected argument 'more' found|judge list more
@@ -116,6 +120,8 @@ done <<END
 4|pg: cannot open none|page none --nodes=$most
 4|pg: cannot open none/none|search $array 0 none/none --nodes=0
 4|pg: cannot open none/|search $array 0 none/
+4|pg: cannot open none/|search $array 0 none/ --tolls
+4|pg: cannot open none|check 8/8 64.5 none none --tolls
 END
 for command in '' check answer cooks judge games why page; do
   expect 0 '' "\"\$pg\" $command --help | grep -c '^Usage: '" 1
@@ -512,6 +518,117 @@ expect 1 'pg: unknown bound 5' '"$pg" why ../journeys.pgc - >/dev/null'
 expect 0 '' '"$pg" check $queen 2.0 good.pgc games --journeys | cmp - report'
 expect 0 '' '"$pg" answer good.pgc --journeys | cmp - report'
 
+# A file with tariffs is written where the words say `--tolls`. `check` reads it by that word, the others without one; what is
+# wrong with the tariffs is told before anything else.
+knights_game=$(cat "$work/knights")
+expect 0 '' '"$pg" search $schweig 4.0 ../tolls.pgc --tolls | tail -n 1' sound
+expect 0 '' 'head -c 4 ../tolls.pgc' PGT1
+expect 0 '' '"$pg" check $schweig 4.0 ../tolls.pgc ../knights --tolls | tail -n 1' sound
+expect 1 'pg: not a certificate' '"$pg" check $schweig 4.0 ../tolls.pgc ../knights' ''
+expect 1 'pg: not a certificate' '"$pg" check $schweig 4.0 ../tolls.pgc ../knights --journeys' ''
+expect 1 'pg: not a certificate of version 1' '"$pg" upgrade ../tolls.pgc new.pgc' ''
+expect 0 '' '"$pg" answer ../tolls.pgc | tail -n 1' sound
+expect 0 '' '"$pg" page ../tolls.pgc | tail -n 1' '</html>'
+expect 0 '' '"$pg" why ../tolls.pgc - | tail -n 1' 'the certificate is right'
+expect 0 '' 'cat ../tolls.pgc | "$pg" answer - | cmp - <("$pg" answer ../tolls.pgc)'
+expect 0 '' 'cat ../tolls.pgc | "$pg" page /dev/stdin | cmp - <("$pg" page ../tolls.pgc)'
+expect 0 '' '"$pg" why - "1. Nc3" <../tolls.pgc | tail -n 1' 'the certificate is right'
+expect 0 '' 'cat ../tolls.pgc | "$pg" check $schweig 4.0 - ../knights --tolls | tail -n 1' sound
+expect 0 '' '"$pg" check $schweig 4.0 ../tolls.pgc --tolls <../knights | tail -n 1' sound
+expect 4 'pg: cannot open -' '"$pg" check $schweig 4.0 - - --tolls <../tolls.pgc' ''
+expect 4 'pg: cannot open -' '"$pg" check $schweig 4.0 - --tolls <../tolls.pgc' ''
+expect 4 'pg: cannot open ../tolls.pgc' '"$pg" check $schweig 4.0 ../tolls.pgc ../tolls.pgc --tolls' ''
+expect 1 'pg: certificate for another length' '"$pg" check $schweig 4.5 ../tolls.pgc empty --tolls' ''
+expect 1 "pg: unlisted game: $knights_game" '"$pg" check $schweig 4.0 ../tolls.pgc empty --tolls' ''
+expect 1 'pg: record limit reached' '"$pg" answer ../tolls.pgc --records 10' ''
+
+# So much of it that no tariff is whole, no tariff or one too many, the certificate cut off or with a byte behind it; bytes that begin
+# almost so; two tariffs; and tariffs before another certificate.
+while IFS='|' read -r said made; do
+  (eval "$made") >"$work/odd.pgc"
+  for command in 'answer ../odd.pgc' 'why ../odd.pgc -' 'page ../odd.pgc' 'check 8/8 64.5 ../odd.pgc empty --tolls'; do
+    [[ "$said" == tariffs:* || "$command" != check* ]] || command='check $schweig 4.0 ../odd.pgc ../knights --tolls'
+    expect 1 "pg: $said" "\"\$pg\" $command" ''
+  done
+done <<'END'
+tariffs: the file is cut off|head -c 4 ../tolls.pgc
+tariffs: the file is cut off|head -c 5 ../tolls.pgc
+tariffs: the file is cut off|head -c 50 ../tolls.pgc
+tariffs: the file is cut off|printf 'PGT1\372'; tail -c +6 ../tolls.pgc
+tariffs: their number is not 1 to 250|printf 'PGT1\0'; tail -c +6 ../tolls.pgc
+tariffs: their number is not 1 to 250|printf 'PGT1\373'; head -c 40000 /dev/zero
+truncated certificate|head -c 3 ../tolls.pgc
+truncated certificate|head -c 135 ../tolls.pgc
+truncated certificate|head -c -1 ../tolls.pgc
+bytes after the certificate|cat ../tolls.pgc; printf x
+not a certificate|printf PGT2; tail -c +5 ../tolls.pgc
+not a certificate|head -c 135 ../tolls.pgc; cat ../tolls.pgc
+END
+{ printf 'PGT1\2'; tail -c +6 ../tolls.pgc | head -c 130; tail -c +6 ../tolls.pgc; } >"$work/two.pgc"
+expect 0 '' '"$pg" answer ../two.pgc | cmp - <("$pg" answer ../tolls.pgc)'
+{ head -c 135 ../tolls.pgc; cat ../open.pgc; } >"$work/before.pgc"
+expect 0 '' '"$pg" answer ../before.pgc --records 22' "${reports[sound]}"
+expect 4 'pg: read fault' '"$pg" check $schweig 4.0 - ../knights --tolls <&-' ''
+expect 4 'pg: cannot open .' '"$pg" check $schweig 4.0 . ../knights --tolls' ''
+
+# A certificate alone is read as ever: with `--tolls` by journeys too. What stands behind tariffs is one.
+expect 0 '' '"$pg" check $queen 2.0 good.pgc games --tolls | cmp - report'
+expect 0 '' '"$pg" check $schweig 4.0 ../journeys.pgc ../knights --tolls | tail -n 1' sound
+expect 1 'pg: not a certificate' '"$pg" check $queen 2.0 report games --tolls' ''
+expect 1 'pg: truncated certificate' '"$pg" check $queen 2.0 empty games --tolls' ''
+tail -c +136 ../tolls.pgc >"$work/behind.pgc"
+expect 0 '' '"$pg" answer ../behind.pgc --journeys | tail -n 1' sound
+
+# Without journeys; the word alone changes nothing, and `--journeys` is stronger. Here tariffs are found that cut.
+paid=Rnb1kbnr/p1p1pppp/8/3p4/8/8/1PPPPP2/RNBQ1KNR
+expect 0 '' '"$pg" search $schweig 4.0 ../without.pgc --tolls --no-journeys | tail -n 1' sound
+expect 0 '' '"$pg" answer ../without.pgc | tail -n 1' sound
+expect 0 '' '"$pg" search $schweig 4.0 ../again.pgc --tolls --journeys --no-journeys | tail -n 1; cmp ../again.pgc ../tolls.pgc' sound
+expect 0 '' '"$pg" search $queen 2.0 ../again.pgc --no-journeys | cmp - report && cmp ../again.pgc good.pgc'
+expect 0 '' '"$pg" search $schweig 4.0 ../again.pgc --journeys --no-journeys | tail -n 1; cmp ../again.pgc ../journeys.pgc' sound
+expect 0 '' '"$pg" search $paid 5.5 ../paid.pgc --tolls --no-journeys >../paid' ''
+expect 0 '' '"$pg" answer ../paid.pgc >../again; status=$?; cmp ../again ../paid && exit $status' ''
+tail -c +266 ../paid.pgc >"$work/behind.pgc"
+{ printf 'PGT1\1'; tail -c +6 ../paid.pgc | head -c 130; cat ../behind.pgc; } >"$work/one.pgc"
+{ head -c 135 ../paid.pgc; head -c 130 /dev/zero; cat ../behind.pgc; } >"$work/nil.pgc"
+expect 0 '' 'head -c 5 ../paid.pgc' $'PGT1\2'
+expect 1 'pg: unknown bound 7' '"$pg" answer ../behind.pgc --journeys' ''
+expect 1 'pg: unknown bound 7' '"$pg" answer ../one.pgc' ''
+expect 1 'pg: cut 7 does not exclude' '"$pg" answer ../nil.pgc' ''
+
+# Searches by tariffs that give up, each with its limits, and what they leave. A place that cannot be written is told first.
+size=$(stat -c %s ../tolls.pgc)
+expect 0 '' '"$pg" search $schweig 4.0 ../again.pgc --tolls --bytes $size | tail -n 1; cmp ../again.pgc ../tolls.pgc' sound
+for bytes in 0 4 100 135 140 171 172 $((size - 1)); do
+  expect 1 'pg: certificate limit reached' '"$pg" search $schweig 4.0 new.pgc --tolls --bytes $bytes' ''
+done
+expect 1 'pg: node limit reached' '"$pg" search $schweig 4.0 good.pgc --tolls --nodes 0' ''
+expect 1 'pg: node limit reached' '"$pg" search $stalemate 9.5 new.pgc --tolls --minutes 0' ''
+expect 1 'pg: a game of 4 plies reaches the diagram' '"$pg" search $queen 3.0 good.pgc --tolls' ''
+expect 0 '' '"$pg" search $schweig 4.0 ../again.pgc --tolls --games ../kept >/dev/null && cmp ../kept ../knights' ''
+expect 4 'pg: write fault' '"$pg" search $queen 2.0 good.pgc --tolls >/dev/full'
+expect 4 'pg: write fault' 'trap "" XFSZ; ulimit -f 1; "$pg" search $schweig 4.0 good.pgc --tolls'
+for name in - . none/new.pgc; do
+  expect 4 "pg: cannot open $name" "timeout 60 \"\$pg\" search \$stalemate 9.5 $name --tolls --nodes 3000000000" ''
+done
+expect 4 'pg: cannot open none/list' 'timeout 60 "$pg" search $stalemate 9.5 new.pgc --games none/list --tolls --nodes 3000000000' ''
+expect 2 'pg: bad rank' '"$pg" search 8/8 9.5 new.pgc --tolls' ''
+
+# A file with tariffs in the folder of judged problems is checked by them; one that is spoiled is as a refused certificate.
+mkdir "$work/proofs/tolls"
+echo "schweig $schweig 4.0" >"$work/list"
+cp ../tolls.pgc "$work/proofs/tolls/schweig.pgc"
+expect 0 '' '"$pg" judge ../list --certificates ../proofs/tolls --nodes 0' \
+  "$(row schweig 4.0 sound - 'certificate, 3033 records' "$knights_game")"
+echo "paid $paid 5.5" >"$work/paid.list"
+cp ../paid.pgc "$work/proofs/tolls/paid.pgc"
+expect 0 '' '"$pg" judge ../paid.list --certificates ../proofs/tolls --nodes 0 | cut -f 1-3; exit "${PIPESTATUS[0]}"' $'paid\t5.5\tsound'
+for spoiled in 'head -c 50 ../tolls.pgc' 'printf "PGT1\0"; tail -c +6 ../tolls.pgc' 'cat ../tolls.pgc; printf x'; do
+  (eval "$spoiled") >"$work/proofs/tolls/schweig.pgc"
+  expect 1 '' '"$pg" judge ../list --certificates ../proofs/tolls --nodes 0' \
+    "$(row schweig 4.0 'not settled' - 'search, 0 nodes, old certificate refused' '0 games met; limit reached')"
+done
+
 # With the words behind $1 `pg` ends with the status $1 and prints something; and with the least stack that the README
 # names it ends so too, and prints and says the same. The environment stands on the stack as well, so there is none.
 small() {
@@ -543,19 +660,27 @@ small 1 search "$four" 4.0 ../again --games ../met
 expect 0 '' 'cmp ../again ../four.pgc && cmp ../met ../four.games' ''
 small 0 search "$schweig" 4.0 ../again --journeys
 expect 0 '' 'cmp ../again ../journeys.pgc' ''
+small 0 search "$schweig" 4.0 ../again --tolls
+expect 0 '' 'cmp ../again ../tolls.pgc' ''
+small 0 search "$paid" 5.5 ../again --tolls --no-journeys
+expect 0 '' 'cmp ../again ../paid.pgc' ''
 small 1 search "$unreachable" 64.0 ../again
 small 0 check "${twelve[@]}" "$twelve_proof" "$top/examples/twelve-moves/games"
 small 0 check "${fifteen[@]}" "$fifteen_proof" "$top/examples/two-knights/games" --journeys
+small 0 check "$schweig" 4.0 ../tolls.pgc ../knights --tolls
 small 1 check "$four" 4.0 ../four.pgc ../four.games
 small 0 answer "$twelve_proof"
 small 0 answer "$fifteen_proof" --journeys
+small 0 answer ../paid.pgc
 small 1 answer ../four.pgc
 small 0 page "$twelve_proof"
 small 0 page "$fifteen_proof" --journeys --nodes 100000
 small 0 page ../four.pgc
+small 0 page ../paid.pgc
 small 0 page ../again
 small 0 why "$fifteen_proof" "$fifteen_game" --journeys
 small 0 why ../four.pgc "$(tail -n 1 ../four.games)"
+small 0 why ../paid.pgc -
 small 1 games "$four" 4.0 ../four.games
 small 1 cooks "$four" 4.0 ../four.games --nodes 100000
 small 0 cooks "${fifteen[@]}" "$top/examples/two-knights/games" --nodes 100000
@@ -632,6 +757,12 @@ if command -v script >/dev/null; then
   says "'$pg' answer nothing" 'pg: cannot open nothing' 'pg: No such file or directory (os error 2)'
   says "'$pg' answer ../journeys.pgc" 'pg: unknown bound 5' 'pg: bound 5 is that by journeys: say --journeys'
   says "'$pg' check $schweig 4.0 ../journeys.pgc ../knights" 'pg: unknown bound 5' 'pg: bound 5 is that by journeys: say --journeys'
+  says "'$pg' check $schweig 4.0 ../tolls.pgc ../knights" 'pg: not a certificate' 'pg: tariffs stand before it: say --tolls'
+  for word in journeys tolls; do
+    on_terminal "'$pg' search $queen 2.0 new.pgc --nodes 3 --$word" | grep -x 'pg: .* reaches further' >"$work/said-of-$word"
+  done
+  [ "$(cat "$work/said-of-journeys")" = 'pg: --tolls reaches further' ] && [ ! -s "$work/said-of-tolls" ] ||
+    { echo "not told which word reaches further" >&2; wrong=1; }
   says "'$pg' search $queen 3.0 new.pgc" 'pg: a game of 4 plies reaches the diagram' 'pg: try the length 2.0'
   says "'$pg' search $cooked 3.5 new.pgc --nodes 8312" 'pg: node limit reached' 'pg: 8307 nodes, tree 3.5 of 3.5' 'pg: 2 games known: not sound' \
     'pg: --journeys reaches further' 'pg: try `pg cooks` with a game, `pg show DIAGRAM LENGTH` for a forecast, or more --nodes'

@@ -166,7 +166,7 @@ judges changed 1 '' "$(found "$searched")"
 judges kept 1 '' "$(found 'certificate, 63 records')" --nodes 0
 F 'ln -s ../right.pgc orders.pgc'
 judges kept 1 '' "$(found 'certificate, 63 records')" --nodes 0
-for bad in ': >orders.pgc' 'head -c -1 ../right.pgc >orders.pgc' 'cp ../none.pgc orders.pgc'; do
+for bad in ': >orders.pgc' 'head -c -1 ../right.pgc >orders.pgc' 'cp ../none.pgc orders.pgc' 'printf PGT1 >orders.pgc'; do
   F "$bad"
   unsettled=$(found 'search, 0 nodes, old certificate refused' 'not settled' '0 games met; limit reached')
   judges kept 1 '' "$unsettled" --nodes 0

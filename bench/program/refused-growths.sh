@@ -105,10 +105,11 @@ refuse() {
 array=rnbqkbnr/pppppppp/8/8/8/8/PPPPPPPP/RNBQKBNR
 open=rnbqkbnr/pppp1ppp/8/4p3/4P3/8/PPPP1PPP/RNBQKBNR
 orders=rnbqkbnr/pppp1ppp/4p3/8/8/3PP3/PPP2PPP/RNBQKBNR
-mkdir "$work/files" "$work/files"/{proofs,standing,refused}
+mkdir "$work/files" "$work/files"/{proofs,standing,refused,tariffs}
 cd "$work/files" || exit 1
 "$pg" search "$open" 1.0 good.pgc >report || exit 1
 "$pg" search "$orders" 1.5 orders.pgc >/dev/null
+"$pg" search "$open" 1.0 tolls.pgc --tolls >/dev/null || exit 1
 echo UEdDMQAkUzZCEREREQAAAAAAAAAAAAAAAAAAAACZmZmZrNu+yg== | base64 -d >old.pgc
 cp "$top/examples/king-abroad/certificate.pgc" references.pgc
 echo '1. e4 e5' >games
@@ -116,7 +117,7 @@ echo '1. d3 e6 2. e3' >order
 : >empty
 
 # A list of one problem, which is sound or cooked, with the author's game and without; and a folder with no certificate
-# of it, a right one, one that is refused, or one of another problem.
+# of it, a right one, one that is refused, one of another problem, or a right one with tariffs.
 echo "game $open 1.0" >one
 echo "game $open 1.0 1. e4 e5" >author
 echo "game $orders 1.5" >two
@@ -125,6 +126,7 @@ echo ". $open 1.0" >bad
 : >proofs/kept
 cp good.pgc standing/game.pgc
 cp report refused/game.pgc
+cp tolls.pgc tariffs/game.pgc
 
 refuse 20 0 '' --help
 refuse 20 0 '' --version
@@ -137,9 +139,12 @@ refuse 40 2 'pg: wrong number of fields' moves 'no position'
 refuse 40 0 '' count "$array w KQkq - 0 1" 4
 refuse 40 0 '' check "$open" 1.0 good.pgc games
 refuse 40 0 '' check "$open" 1.0 good.pgc games --journeys
+refuse 40 0 '' check "$open" 1.0 good.pgc games --tolls
+refuse 40 0 '' check "$open" 1.0 tolls.pgc games --tolls
 refuse 40 1 'pg: unlisted game: 1. e4 e5' check "$open" 1.0 good.pgc empty
 refuse 40 0 '' answer good.pgc
 refuse 40 0 '' answer good.pgc --journeys
+refuse 40 0 '' answer tolls.pgc
 refuse 40 1 '' answer orders.pgc
 refuse 40 1 'pg: not a certificate' answer report
 refuse 40 0 '' games "$open" 1.0 games
@@ -149,7 +154,10 @@ refuse 40 1 '' cooks "$orders" 1.5 order
 refuse 40 2 'pg: no game to go by' cooks "$open" 1.0 empty
 refuse 40 0 '' search "$open" 1.0 good.pgc
 refuse 40 0 '' search "$open" 1.0 new.pgc --journeys
+refuse 40 0 '' search "$open" 1.0 new.pgc --tolls
+refuse 40 0 '' search "$open" 1.0 new.pgc --tolls --no-journeys --games games
 refuse 40 1 'pg: node limit reached' search "$open" 1.0 new.pgc --nodes 3
+refuse 40 1 'pg: node limit reached' search "$open" 1.0 new.pgc --nodes 0 --tolls --games new.games
 refuse 40 0 '' search "$open" 1.0 good.pgc --games games
 refuse 40 1 'pg: node limit reached' search "$open" 1.0 new.pgc --games new.games --nodes 3
 
@@ -159,10 +167,12 @@ refuse 40 0 '' why references.pgc 'e3 h5 d3'
 may=ample refuse 40 0 '' why good.pgc '1. e4 e5'
 may=ample refuse 40 0 '' why good.pgc 'd4'
 may=ample refuse 40 0 '' why good.pgc 'd4' --journeys
+may=ample refuse 40 0 '' why tolls.pgc '1. e4 e5'
 refuse 40 2 'pg: line 1, ply 1: not a move' why good.pgc 'Nf9'
 refuse 40 0 '' page good.pgc
 refuse 40 0 '' page good.pgc --nodes 0
 refuse 40 0 '' page good.pgc --journeys
+refuse 40 0 '' page tolls.pgc
 refuse 40 0 '' upgrade old.pgc new.pgc
 refuse 40 4 'pg: cannot open old.pgc' upgrade old.pgc old.pgc
 
@@ -175,6 +185,7 @@ refuse 40 0 '' judge one --certificates proofs
 refuse 40 0 '' judge one --certificates made/here
 refuse 40 0 '' judge one --certificates refused
 may=ample refuse 40 0 '' judge one --certificates standing
+may=ample refuse 40 0 '' judge one --certificates tariffs
 may='ample unsettled cooked'
 refuse 40 1 '' judge two
 refuse 40 1 '' judge cook

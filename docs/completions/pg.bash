@@ -14,9 +14,9 @@ _pg() {
     count) options="--help -h" ;;
     games) options="--help -h" file_places=" 3 " ;;
     cooks) options="--nodes --minutes --foreign --help -h" valued=" --nodes --minutes --foreign " file_places=" 3 " ;;
-    check) options="--records --journeys --help -h" valued=" --records " file_places=" 3 4 " ;;
+    check) options="--records --journeys --tolls --help -h" valued=" --records " file_places=" 3 4 " ;;
     answer) options="--records --journeys --help -h" valued=" --records " file_places=" 1 " ;;
-    search) options="--nodes --minutes --bytes --games --journeys --help -h" valued=" --nodes --minutes --bytes --games " file_options=" --games " file_places=" 3 " ;;
+    search) options="--nodes --minutes --bytes --games --journeys --tolls --no-journeys --help -h" valued=" --nodes --minutes --bytes --games " file_options=" --games " file_places=" 3 " ;;
     judge) options="--certificates --replace --nodes --minutes --bytes --journeys --help -h" valued=" --certificates --nodes --minutes --bytes " file_options=" --certificates " file_places=" 1 " ;;
     why) options="--records --journeys --help -h" valued=" --records " file_places=" 1 " ;;
     page) options="--records --nodes --journeys --help -h" valued=" --records --nodes " file_places=" 1 " ;;

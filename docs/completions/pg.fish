@@ -54,6 +54,7 @@ complete -c pg -n '__pg_is cooks' -s h -l help -d 'Print help'
 complete -c pg -n '__pg_is_at cooks 3 --nodes --minutes --foreign' -F
 complete -c pg -n '__pg_is check' -l records -x -d 'Refuses a certificate of more records [default: 100000000]'
 complete -c pg -n '__pg_is check' -l journeys -d 'Takes cuts by the bound by journeys too'
+complete -c pg -n '__pg_is check' -l tolls -d 'Takes cuts by journeys and by the tariffs of CERT too'
 complete -c pg -n '__pg_is check' -s h -l help -d 'Print help'
 complete -c pg -n '__pg_is_at check 3 --records' -F
 complete -c pg -n '__pg_is_at check 4 --records' -F
@@ -66,6 +67,8 @@ complete -c pg -n '__pg_is search' -l minutes -x -d 'Gives up after so many minu
 complete -c pg -n '__pg_is search' -l bytes -x -d 'Gives up before CERT is longer [default: 4000000000]'
 complete -c pg -n '__pg_is search' -l games -r -F -d 'Keeps the games that it met, if any, also if it gives up'
 complete -c pg -n '__pg_is search' -l journeys -d 'Cuts by the bound by journeys too: far fewer nodes'
+complete -c pg -n '__pg_is search' -l tolls -d 'Cuts by journeys and by tolls, whose tariffs go into CERT'
+complete -c pg -n '__pg_is search' -l no-journeys -d 'With --tolls: no journeys; more nodes, often in less time'
 complete -c pg -n '__pg_is search' -s h -l help -d 'Print help'
 complete -c pg -n '__pg_is_at search 3 --nodes --minutes --bytes --games' -F
 complete -c pg -n '__pg_is judge' -l certificates -r -F -d 'Keeps each certificate as FOLDER/NAME.pgc'

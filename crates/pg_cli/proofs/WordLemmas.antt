@@ -1,6 +1,6 @@
 -- What texts and words spell, as `clap` gives them; and why a search has no report.
 use Rattle.std.proofs.Common.{◌≡◌, ◌∙◌, ◌↔◌, ℕ, Bool, List, [], refl, subst, sym, ap, codes}
-use Rattle.std.specs.Prelude.{IsTrue, false, true, Option, Some, None, Result, Ok, Err, IfErr, unwrap_or}
+use Rattle.std.specs.Prelude.{IsTrue, false, true, Option, Some, None, Result, Ok, Err, IfOk, IfErr, unwrap_or}
 use Rattle.std.specs.Str.Parse.{ParsesUnsigned}
 use Rattle.clap.specs.Words.{ReadsOne, Row, Text, first_of, first_value, rows_of}
 use Rattle.clap.specs.declared.parser.matches.Found.{Found}
@@ -20,8 +20,9 @@ use Rattle.pg_cooks.specs.Known.{IsListingFault}
 use Rattle.pg_cooks.specs.declared.fault.ListingFault.{ListingFault}
 use Rattle.pg_cooks.specs.declared.fault.ListingFault.TheVariants as listing
 use Rattle.pg_report.specs.Run.{Failures, of_problem}
-use Rattle.pg_report.specs.declared.fault.RunFault.{RunFault}
 use Rattle.pg_report.specs.declared.fault.RunFault.TheVariants.{Check as CheckFault}
+use Rattle.pg_checker.specs.declared.problem.Problem.{Problem}
+use Rattle.pg_cli.specs.Asking.{IsOfWords}
 use Rattle.pg_cli.specs.Refusals.{listing_refusal}
 use Rattle.pg_cli.specs.Runs.{AreMet, IsFoundRefusal, IsGivenUp, IsOfProblem, IsSearchRefusal, search_refusal}
 use Rattle.pg_cli.specs.Words.{spelled, IsNumber, IsSpelled}
@@ -36,23 +37,26 @@ words_are_none : (rows : List Row) (diagram length : List ℕ) (fault : ProblemF
 words_are_none rows diagram length fault e f h =
     subst (λ (x : List ℕ). IsProblemFault x (spelled (codes "LENGTH") rows) fault) e (subst (λ (y : List ℕ). IsProblemFault diagram y fault) f h)
 
-refused_so : (rows : List Row) (fault : ProblemFault)
+pub refused_so : (rows : List Row) (fault : ProblemFault)
     → IsProblemFault (spelled (codes "DIAGRAM") rows) (spelled (codes "LENGTH") rows) fault → IsOfProblem rows (Check (of_problem fault))
 refused_so rows (problem.Diagram fault) h = h
 refused_so rows (problem.Length fault) h = h
-
-pub no_problem : (rows : List Row) (diagram length : List ℕ) (fault : ProblemFault) (run : RunFault) → diagram ≡ spelled (codes "DIAGRAM") rows
-    → length ≡ spelled (codes "LENGTH") rows → IsProblemFault diagram length fault → run ≡ of_problem fault → IsOfProblem rows (Check run)
-no_problem rows diagram length fault run e f h same = subst (λ (x : RunFault). IsOfProblem rows (Check x)) (sym same)
-    (refused_so rows fault (words_are_none rows diagram length fault e f h))
 
 -- what a text is read as, the word that it is, is read as
 pub is_read : {A : Type 0} (read : List ℕ → A) (text word : List ℕ) (r : A) → text ≡ word → r ≡ read text → read word ≡ r
 is_read read text word r e h = ap read (sym e) ∙ sym h
 
-pub is_spelled : (rows : List Row) (diagram length : List ℕ) (d : Placement) (n : ℕ) → diagram ≡ spelled (codes "DIAGRAM") rows
+is_spelled : (rows : List Row) (diagram length : List ℕ) (d : Placement) (n : ℕ) → diagram ≡ spelled (codes "DIAGRAM") rows
     → length ≡ spelled (codes "LENGTH") rows → diagram_of (fields diagram) ≡ Ok d → length_of length ≡ Ok n → IsSpelled rows d n
 is_spelled rows diagram length d n e f g h = (ap (λ (x : List ℕ). diagram_of (fields x)) (sym e) ∙ g, ap (λ (x : List ℕ). length_of x) (sym f) ∙ h)
+
+-- a problem is of the words where it is read from their texts
+pub is_of_words : (rows : List Row) (diagram length : List ℕ) (given : Result Problem ProblemFault) → diagram ≡ spelled (codes "DIAGRAM") rows
+    → length ≡ spelled (codes "LENGTH") rows
+    → IfOk given (λ p. (diagram_of (fields diagram) ≡ Ok p.diagram) × (length_of length ≡ Ok p.length))
+    → IfErr given (λ e. IsProblemFault diagram length e) → IsOfWords rows given
+is_of_words rows diagram length (Ok p) e f h k = is_spelled rows diagram length p.diagram p.length e f h.0 h.1
+is_of_words rows diagram length (Err fault) e f h k = words_are_none rows diagram length fault e f k
 
 -- the text of a word, from what `clap` gives for its name
 pub word_given : (f : Found) (name : Text) (text : List ℕ) → Some text ≡ first_value f name → text ≡ spelled name (rows_of f)

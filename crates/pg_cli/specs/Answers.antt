@@ -8,14 +8,15 @@ use Rattle.pg_position.specs.declared.moves.Move.{Move}
 use Rattle.pg_checker.specs.Answer.{IsExactAnswer}
 use Rattle.pg_checker.specs.Naming.{Begins, IsNamed}
 use Rattle.pg_checker.specs.Terms.{Terms}
+use Rattle.pg_checker.specs.declared.fault.ProblemFault.{ProblemFault}
 use Rattle.pg_checker.specs.declared.problem.Problem.{Problem}
 use Rattle.pg_files.specs.Inputs.{IsAll}
+use Rattle.pg_tariff_files.specs.Files.{IsFile}
 use Rattle.pg_san.specs.Listing.{IsListing}
 use Rattle.pg_texts.specs.Report.{IsVerdict}
 use Rattle.pg_report.specs.Answering.{IsReported}
 use Rattle.pg_report.specs.Statuses.{verdict_status}
 use Rattle.pg_texts.specs.declared.verdict.Verdict.{Verdict}
-use Rattle.pg_cli.specs.declared.refusals.Refusal.{Refusal}
 
 -- the list is the exact answer to the diagram and the length, and
 -- the status is that of its verdict: 0 where it has one game, else 1
@@ -40,16 +41,20 @@ abbrev pub IsGivenBy : {F R : Type 0} → (F → Option (List ℕ)) → (R → O
 IsGivenBy {F} {R} file input name bytes = (source : Either F R) × (IsFalse (is_left source) ↔ (name ≡ codes "-"))
     × IsAll (either file input source) bytes
 
--- the bytes of some opened file or, where the name is a hyphen, of some standard input, where those are known, begin with
--- a header that names this diagram and this length
+-- bytes are those of a certificate, alone or behind tariffs, that begins with a header which names this diagram and length
+abbrev pub IsCertificateOf : Placement → ℕ → List ℕ → Type 0
+IsCertificateOf d n bytes = (stated : List ℕ) × (certificate : List ℕ) × IsFile bytes stated certificate
+    × Begins (λ h. IsNamed h d n) certificate
+
+-- so the bytes of some opened file are or, where the name is a hyphen, of some standard input, where those are known
 abbrev pub IsNamedBy : {F R : Type 0} → (F → Option (List ℕ)) → (R → Option (List ℕ)) → Text → Placement → ℕ → Type 0
 IsNamedBy {F} {R} file input name d n = (source : Either F R) × (IsFalse (is_left source) ↔ (name ≡ codes "-"))
-    × IfSome (either file input source) (Begins (λ h. IsNamed h d n))
+    × IfSome (either file input source) (IsCertificateOf d n)
 
 -- a problem is given, and so it is for its diagram and its length
-abbrev pub OfGiven : Result Problem Refusal → (Placement → ℕ → Type 0) → Type 0
+abbrev pub OfGiven : Result Problem ProblemFault → (Placement → ℕ → Type 0) → Type 0
 OfGiven (Ok p) Is = Is p.diagram p.length
-OfGiven (Err refusal) Is = ⊥
+OfGiven (Err fault) Is = ⊥
 
 -- so it is for a list that some text spells
 abbrev pub OfSomeText : (List (List Move) → Type 0) → Type 0

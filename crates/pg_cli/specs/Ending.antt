@@ -1,18 +1,17 @@
 -- With which status the program ends: that of a command's answer, or that of its refusal, by what each says of the words.
-use Rattle.std.specs.Prelude.{◌≡◌, ◌⊎◌, ℕ, Bool, List, Result, Err, codes}
+use Rattle.std.specs.Prelude.{◌≡◌, ◌⊎◌, ℕ, Bool, List, Result, codes}
 use Rattle.clap.specs.Words.{Row, Text}
 use Rattle.clap.specs.declared.parser.matches.ArgMatches.{ArgMatches}
 use Rattle.pg_board.specs.Placement.{Placement}
+use Rattle.pg_checker.specs.declared.fault.ProblemFault.{ProblemFault}
 use Rattle.pg_checker.specs.declared.problem.Problem.{Problem}
 use Rattle.pg_cli.specs.Answers.{OfGiven}
 use Rattle.pg_cli.specs.Refusals.{refusal_status}
-use Rattle.pg_cli.specs.Runs.{IsCountRefusal, IsMovesRefusal, IsOfFile, IsOfInput, IsOfProblem, IsRefusedFor, IsSearchRefusal, IsShowRefusal, IsUnchecked}
-use Rattle.pg_cli.specs.Words.{IsSpelled, IsStatus, OfCommand, OfPlies, spelled}
+use Rattle.pg_cli.specs.Runs.{IsCountRefusal, IsMovesRefusal, IsOfFile, IsOfGiven, IsOfInput, IsOfProblem, IsRefusedFor, IsSearchRefusal, IsShowRefusal, IsUnchecked}
+use Rattle.pg_cli.specs.Words.{IsStatus, OfCommand, OfPlies, OfSpelled, spelled}
 use Rattle.pg_cli.specs.declared.commands.Command.{Command}
-use Rattle.pg_cli.specs.declared.commands.Command.TheVariants.{OfProblem, Other}
+use Rattle.pg_cli.specs.declared.commands.Command.TheVariants.{Check, Search, Other}
 use Rattle.pg_cli.specs.declared.commands.OtherCommand.TheVariants.{Show, Moves, Count, Judge}
-use Rattle.pg_cli.specs.declared.commands.ProblemCommand.{ProblemCommand}
-use Rattle.pg_cli.specs.declared.commands.ProblemCommand.TheVariants.{Check, Search}
 use Rattle.pg_cli.specs.declared.refusals.Refusal.{Refusal}
 use Rattle.pg_cli.specs.declared.refusals.Refusal.TheVariants.{Minutes, NoName, Memory}
 
@@ -26,15 +25,13 @@ IsUnready refusal = ⊥
 -- why a command on the problem of the words has no status: a file or what it holds is refused; the words are no problem;
 -- or so it is for the one that they spell
 abbrev pub IsRefusedWith : (Placement → ℕ → Refusal → Type 0) → List Row → Refusal → Type 0
-IsRefusedWith Is rows refusal = IsOfInput refusal ⊎ (IsOfProblem rows refusal
-    ⊎ ((d : Placement) × (n : ℕ) × IsSpelled rows d n × Is d n refusal))
+IsRefusedWith Is rows refusal = IsOfInput refusal
+    ⊎ (IsOfProblem rows refusal ⊎ OfSpelled rows (λ d n. Is d n refusal))
 
--- the same of a command on a problem that is given; of those that are not here nothing is said
-abbrev pub refuses_problem : ProblemCommand → Result Problem Refusal → Refusal → Type 0
-refuses_problem Check given refusal = IsRefusedFor IsUnchecked given refusal
-refuses_problem Search given refusal =
-    IsOfFile refusal ⊎ ((given ≡ Err refusal) ⊎ OfGiven given (λ d n. IsSearchRefusal d n refusal))
-refuses_problem command given refusal = Unit {0}
+-- why a search for the games of a problem that is given has no status
+abbrev pub IsSearchRefused : Result Problem ProblemFault → Refusal → Type 0
+IsSearchRefused given refusal =
+    IsOfFile refusal ⊎ (IsOfGiven given refusal ⊎ OfGiven given (λ d n. IsSearchRefusal d n refusal))
 
 -- what a refusal says of a command with these words. Of those that are not here it says nothing: why they have no status
 -- hangs on what files hold.
@@ -44,9 +41,9 @@ refuses (Other Moves) rows refusal = (failed : Bool) × IsMovesRefusal (spelled 
 refuses (Other Count) rows refusal =
     (failed : Bool) × OfPlies rows (λ plies. IsCountRefusal (spelled (codes "FEN") rows) plies failed refusal)
 refuses (Other Judge) rows refusal = IsOfFile refusal
-refuses (OfProblem Check) rows refusal = IsRefusedWith IsUnchecked rows refusal
-refuses (OfProblem Search) rows refusal = IsOfFile refusal ⊎ (IsOfProblem rows refusal
-    ⊎ ((d : Placement) × (n : ℕ) × IsSpelled rows d n × IsSearchRefusal d n refusal))
+refuses Check rows refusal = IsRefusedWith IsUnchecked rows refusal
+refuses Search rows refusal = IsOfFile refusal
+    ⊎ (IsOfProblem rows refusal ⊎ OfSpelled rows (λ d n. IsSearchRefusal d n refusal))
 refuses command rows refusal = Unit {0}
 
 -- what a refusal says of the command that the words name

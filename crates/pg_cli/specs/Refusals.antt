@@ -7,9 +7,17 @@ use Rattle.pg_files.specs.declared.faults.FileFault.{FileFault}
 use Rattle.pg_files.specs.declared.faults.FileFault.TheVariants as file
 use Rattle.pg_report.specs.declared.fault.RunFault.TheVariants.{Check as CheckFault, Write as CheckWrite}
 use Rattle.pg_report.specs.Statuses.{answer_status_of, status_of, search_status_of, show_status_of, moves_status_of, count_status_of, upgrade_status_of}
+use Rattle.pg_tariff_files.specs.declared.fault.CarriedFault.{CarriedFault}
+use Rattle.pg_tariff_files.specs.declared.fault.CarriedFault.TheVariants as carried
 use Rattle.pg_cli.specs.declared.refusals.Named.{Named}
 use Rattle.pg_cli.specs.declared.refusals.Refusal.{Refusal}
-use Rattle.pg_cli.specs.declared.refusals.Refusal.TheVariants.{Words, Minutes, Open, NoName, Line, NoGame, NotUtf8, Read, Write, Memory, Show, Moves, Count, Search, Full, GaveUp, Upgrade, Check, Answer}
+use Rattle.pg_cli.specs.declared.refusals.Refusal.TheVariants.{Words, Minutes, Open, NoName, Line, NoGame, NotUtf8, Read, Write, Memory, Show, Moves, Count, Search, Full, GaveUp, Upgrade, Check, Answer, Tariffs}
+
+-- that of a file whose tariffs are not read
+abbrev pub tariffs_status : CarriedFault → ℕ
+tariffs_status carried.Read = 4
+tariffs_status carried.Memory = 3
+tariffs_status fault = 1
 
 -- 1 where a list or a certificate is refused or a search gave up,
 -- 2 for bad words and texts, 3 for want of memory, 4 for a file
@@ -33,6 +41,7 @@ refusal_status (GaveUp fault known) = search_status_of fault
 refusal_status (Upgrade fault) = upgrade_status_of fault
 refusal_status (Check fault) = status_of fault
 refusal_status (Answer fault) = answer_status_of fault
+refusal_status (Tariffs fault) = tariffs_status fault
 
 -- the refusal that a fault of the file is which this word names
 abbrev pub file_refusal : FileFault → Named → Refusal

@@ -15,6 +15,7 @@ use Rattle.pg_checker.specs.ProblemText.{IsProblemFault}
 use Rattle.pg_checker.specs.Telling.{Tells}
 use Rattle.pg_checker.specs.Terms.{Terms}
 use Rattle.pg_checker.specs.declared.fault.Fault.TheVariants.{Listed as Unfit}
+use Rattle.pg_checker.specs.declared.fault.ProblemFault.{ProblemFault}
 use Rattle.pg_checker.specs.declared.fault.ProblemFault.TheVariants as problem
 use Rattle.pg_checker.specs.declared.problem.Problem.{Problem}
 use Rattle.pg_report.specs.declared.fault.RunFault.TheVariants.{Diagram as CheckDiagram, Length as CheckLength, Games as CheckGames, Check as CheckFault, Write as CheckWrite}
@@ -29,7 +30,7 @@ use Rattle.pg_texts.specs.declared.fault.MovesFault.TheVariants.{Write as MovesW
 use Rattle.pg_texts.specs.declared.fault.CountRunFault.TheVariants.{Write as CountWrite}
 use Rattle.pg_texts.specs.declared.fault.UpgradeFault.TheVariants.{Write as CopyWrite}
 use Rattle.pg_report.specs.Answering.{IsUnreported}
-use Rattle.pg_report.specs.Run.{Failures, IsCheckFault}
+use Rattle.pg_report.specs.Run.{Failures, IsCheckFault, of_problem}
 use Rattle.pg_report.specs.Shortest.{IsLeastLength, NoneBelow}
 use Rattle.pg_report.specs.Showing.{IsShown}
 use Rattle.pg_report.specs.declared.fault.AnswerRunFault.TheVariants.{Answer as Unanswered, Write as ReportWrite}
@@ -53,7 +54,7 @@ use Rattle.pg_cli.specs.Refusals.{listing_refusal}
 use Rattle.pg_cli.specs.Words.{spelled, SpellsBoard}
 use Rattle.pg_cli.specs.declared.refusals.Reached.{Reached}
 use Rattle.pg_cli.specs.declared.refusals.Refusal.{Refusal}
-use Rattle.pg_cli.specs.declared.refusals.Refusal.TheVariants.{Open, NoGame, NotUtf8, Read, Write, Memory, Line as NoLine, Show, Moves, Count, Search, Full, GaveUp, Upgrade, Check, Answer}
+use Rattle.pg_cli.specs.declared.refusals.Refusal.TheVariants.{Open, NoGame, NotUtf8, Read, Write, Memory, Line as NoLine, Show, Moves, Count, Search, Full, GaveUp, Upgrade, Check, Answer, Tariffs}
 
 -- ---- files and sinks
 -- a file is not opened, not read or not written, or memory was refused
@@ -64,9 +65,10 @@ IsOfFile Write = Unit {0}
 IsOfFile Memory = Unit {0}
 IsOfFile refusal = ⊥
 
--- so it is, or the bytes of a list of games are no text
+-- so it is, or the bytes of a list of games are no text, or those before a certificate state no tariffs
 abbrev pub IsOfInput : Refusal → Type 0
 IsOfInput NotUtf8 = Unit {0}
+IsOfInput (Tariffs fault) = Unit {0}
 IsOfInput refusal = IsOfFile refusal
 
 -- the sink refused what was to be written
@@ -138,18 +140,22 @@ abbrev pub IsOfText : List ℕ → Refusal → Type 0
 IsOfText text (Check (CheckGames fault)) = IsTextFault text fault
 IsOfText text refusal = ⊥
 
+-- there is no problem, for this reason
+abbrev pub IsOfGiven : Result Problem ProblemFault → Refusal → Type 0
+IsOfGiven given refusal = (fault : ProblemFault) × (given ≡ Err fault) × (refusal ≡ Check (of_problem fault))
+
 -- these bytes are no text; else there is no problem; else the text is refused as a list
-abbrev pub IsOfList : Result Problem Refusal → List ℕ → Refusal → Type 0
+abbrev pub IsOfList : Result Problem ProblemFault → List ℕ → Refusal → Type 0
 IsOfList given text refusal = ((refusal ≡ NotUtf8) × ¬ IsUtf8 text)
-    ⊎ ((given ≡ Err refusal) ⊎ ((p : Problem) × (given ≡ Ok p) × IsOfText text refusal))
+    ⊎ (IsOfGiven given refusal ⊎ ((p : Problem) × (given ≡ Ok p) × IsOfText text refusal))
 
 -- a file or what it holds is refused; or there is no problem; or so it is for the one that is given
-abbrev pub IsRefusedFor : (Placement → ℕ → Refusal → Type 0) → Result Problem Refusal → Refusal → Type 0
+abbrev pub IsRefusedFor : (Placement → ℕ → Refusal → Type 0) → Result Problem ProblemFault → Refusal → Type 0
 IsRefusedFor Is given refusal =
-    IsOfInput refusal ⊎ ((given ≡ Err refusal) ⊎ OfGiven given (λ d n. Is d n refusal))
+    IsOfInput refusal ⊎ (IsOfGiven given refusal ⊎ OfGiven given (λ d n. Is d n refusal))
 
 -- there is no list for a problem: that of some text is refused
-abbrev pub IsUnlisted : Result Problem Refusal → Refusal → Type 0
+abbrev pub IsUnlisted : Result Problem ProblemFault → Refusal → Type 0
 IsUnlisted given refusal = IsRefusedFor (λ d n r. (text : List ℕ) × IsOfText text r) given refusal
 
 -- a listed game is no solution, or the sink has failed

@@ -13,11 +13,11 @@ use Rattle.pg_cooks.specs.Unsound.{IsUnsound}
 use Rattle.pg_cli.specs.declared.commands.CertificateCommand.{CertificateCommand}
 use Rattle.pg_cli.specs.declared.commands.CertificateCommand.TheVariants.{Answer, Why, Page}
 use Rattle.pg_cli.specs.declared.commands.Command.{Command}
-use Rattle.pg_cli.specs.declared.commands.Command.TheVariants.{OfProblem, OfCertificate, Other}
+use Rattle.pg_cli.specs.declared.commands.Command.TheVariants.{OfProblem, Check, Search, OfCertificate, Other}
 use Rattle.pg_cli.specs.declared.commands.OtherCommand.{OtherCommand}
 use Rattle.pg_cli.specs.declared.commands.OtherCommand.TheVariants.{Show, Moves, Count, Judge, Upgrade}
 use Rattle.pg_cli.specs.declared.commands.ProblemCommand.{ProblemCommand}
-use Rattle.pg_cli.specs.declared.commands.ProblemCommand.TheVariants.{Games, Cooks, Check, Search}
+use Rattle.pg_cli.specs.declared.commands.ProblemCommand.TheVariants.{Games, Cooks}
 use Rattle.pg_cli.specs.Answers.{HasAnswer, HasList, IsAnswered, OfSomeText}
 use Rattle.pg_cli.specs.Judging.{IsListJudged}
 use Rattle.pg_cli.specs.Knowing.{IsFollowedWith, IsTestedWith}
@@ -69,10 +69,13 @@ abbrev pub HasDiagram : List Row → ℕ → Type 0
 HasDiagram rows status = ((d : Placement) × (diagram_of (fields (spelled (codes "DIAGRAM") rows)) ≡ Ok d))
     × IfSome (first_of (codes "LENGTH") rows) (λ length. (n : ℕ) × (length_of length ≡ Ok n)) × (status ≡ 0)
 
--- a command with these words goes by the bound by journeys too: `show` always, others where their words say it
-abbrev pub GoesByJourneys : Command → List Row → Type 0
-GoesByJourneys (Other Show) rows = Unit {0}
-GoesByJourneys command rows = first_of (codes "journeys") rows ≡ Some (codes "true")
+-- the words have the name of a flag
+abbrev pub Says : Text → List Row → Type 0
+Says flag rows = first_of flag rows ≡ Some (codes "true")
+
+-- so it is of the problem that the words DIAGRAM and LENGTH spell
+abbrev pub OfSpelled : List Row → (Placement → ℕ → Type 0) → Type 0
+OfSpelled rows Is = (d : Placement) × (n : ℕ) × IsSpelled rows d n × Is d n
 
 -- the name of a command
 abbrev pub name_of : Command → Text
@@ -81,22 +84,23 @@ name_of (Other Moves) = codes "moves"
 name_of (Other Count) = codes "count"
 name_of (OfProblem Games) = codes "games"
 name_of (OfProblem Cooks) = codes "cooks"
-name_of (OfProblem Check) = codes "check"
+name_of Check = codes "check"
 name_of (OfCertificate Answer) = codes "answer"
-name_of (OfProblem Search) = codes "search"
+name_of Search = codes "search"
 name_of (Other Judge) = codes "judge"
 name_of (OfCertificate Why) = codes "why"
 name_of (OfCertificate Page) = codes "page"
 name_of (Other Upgrade) = codes "upgrade"
 
 -- what a status says of a problem: with `games` and `cooks` it is that of what solutions which some text spells show, or
--- of what is found beside them, and 1 only where no list of one game is the exact answer; with `check` that these games
--- are the exact answer, and with `search` that some list is
+-- of what is found beside them, and 1 only where no list of one game is the exact answer
 abbrev pub says_of_problem : ProblemCommand → Placement → ℕ → ℕ → Type 0
 says_of_problem Games d n status = (status ≡ 1 → IsUnsound d n) × OfSomeText (λ list. IsTestedWith d n list status)
 says_of_problem Cooks d n status = (status ≡ 1 → IsUnsound d n) × OfSomeText (λ list. IsFollowedWith d n list status)
-says_of_problem Check d n status = OfSomeText (λ list. IsAnswered d n list status)
-says_of_problem Search d n status = HasAnswer d n status
+
+-- what it says with `check`: that games which some text spells are the exact answer
+abbrev pub IsChecked : Placement → ℕ → ℕ → Type 0
+IsChecked d n status = OfSomeText (λ list. IsAnswered d n list status)
 
 -- what it says of the problem of a certificate: that some list is the exact answer; with `why` and `page` it is 0
 abbrev pub says_of_certificate : CertificateCommand → Placement → ℕ → ℕ → Type 0
@@ -115,8 +119,9 @@ says_of_words Gives Upgrade rows status = status ≡ 0
 -- what a status says of a command with these words, where `Names` is what the header of the certificate of a name names,
 -- and `Gives` which bytes the list of a name has
 abbrev pub says : (Text → Placement → ℕ → Type 0) → (Text → List ℕ → Type 0) → Command → List Row → ℕ → Type 0
-says Names Gives (OfProblem command) rows status =
-    (d : Placement) × (n : ℕ) × IsSpelled rows d n × says_of_problem command d n status
+says Names Gives (OfProblem command) rows status = OfSpelled rows (λ d n. says_of_problem command d n status)
+says Names Gives Check rows status = OfSpelled rows (λ d n. IsChecked d n status)
+says Names Gives Search rows status = OfSpelled rows (λ d n. HasAnswer d n status)
 says Names Gives (OfCertificate command) rows status =
     (d : Placement) × (n : ℕ) × Names (spelled (codes "CERT") rows) d n × says_of_certificate command d n status
 says Names Gives (Other command) rows status = says_of_words Gives command rows status

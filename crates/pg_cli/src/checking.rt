@@ -12,22 +12,24 @@ ghost use Rattle.pg_streams.specs.Buffer.{IsHandedOn, sink_of};
 ghost use Rattle.pg_texts.specs.Report.{IsReport};
 ghost use Rattle.pg_cli.specs.Answers.{IsAnswered, OfGiven};
 ghost use Rattle.pg_cli.specs.Runs.{IsFoundRefusal, IsOfSink, IsRefusedFor, IsUnchecked};
-ghost use Rattle.pg_cli.specs.Words.{ByRecords, says_of_problem};
-ghost use Rattle.pg_cli.specs.declared.commands.ProblemCommand.TheVariants.{Check};
+ghost use Rattle.pg_cli.specs.Words.{ByRecords, IsChecked};
 
+use crate::asked::Carrying;
 use crate::knowing::{Listed, read_listed};
-use crate::refusals::{Named, Refusal};
+use crate::refusals::Refusal;
 use crate::screen::Screen;
 use crate::spelling::{records_of, text_of};
 use clap::ArgMatches;
 use pg_certificate::format::MOST_NAMED;
-use pg_files::{INPUT, Obstacle, is_input, lead_to_one, open, size_of};
+use pg_files::size_of;
 use pg_report::{
-    Bound, Problem, Refused, RunFault, Sink, Source, ToWrite, run_listed, verdict_status,
+    Bound, Problem, ProblemFault, Refused, RunFault, Sink, Source, ToWrite, run_listed,
+    verdict_status,
 };
 use pg_streams::{Cleared, Gathered, Passing, Terminal};
 use std::alloc::Global;
 use std::io;
+use std::io::Read;
 use std::rt::Runtime;
 
 // The status that a report has, once the report is wholly handed on.
@@ -115,43 +117,28 @@ pub(crate) fn check_on<S: Source, W: Sink>(
     check_listed(alloc, listed, records_of(words), bounds, source, out)
 }
 
-// Whether the list of games is to come from the file of the certificate, or from the same standard input.
-#[inline(never)]
-fn are_one<R: Runtime + AllocGlobal>(rt: &R, certificate: &str, games: Option<&str>) -> bool {
-    match games {
-        Some(games) if lead_to_one(rt, certificate, games) => true,
-        games => is_input(certificate) && is_input(games.unwrap_or(INPUT)),
-    }
-}
-
-// `pg check`: the certificate of a file is checked, and the report stands on standard output. A status means that to the
+// `pg check`: a certificate that was opened is checked, and the report stands on standard output. A status means that to the
 // problem a list that some text spells is the exact answer, and 0 that it has one game; the text is that of the file
 // GAMES or of standard input, of which no contract can say what it gives. A game that is called unlisted is a solution.
 #[inline(never)]
-pub(crate) fn check<R: Runtime + AllocGlobal>(
+pub(crate) fn check<R: Runtime + AllocGlobal, F: Read + Drop>(
     rt: &R,
     words: &ArgMatches<'_>,
-    problem: Result<Problem, Refusal>,
+    problem: Result<Problem, ProblemFault>,
+    certificate: &mut Carrying<F>,
     bounds: &[Box<dyn Bound>],
     screen: Screen,
 ) -> Result<u8, Refusal>
-    ensures ok { IfOk result (λ status. OfGiven problem (λ d n. says_of_problem Check d n status)) }
+    ensures ok { IfOk result (λ status. OfGiven problem (λ d n. IsChecked d n status)) }
     ensures err { IfErr result (IsRefusedFor IsUnchecked problem) }
 {
-    let name = text_of(words, "CERT");
-    let certificate = match open(rt, name) {
-        Ok(certificate) => certificate,
-        Err(fault) => return Err(Refusal::of_file(fault, Named::Certificate)),
-    };
-    if are_one(rt, name, words.get_str("GAMES")) {
-        return Err(Refusal::Open(Named::Certificate, Obstacle::NamedTwice));
-    }
     let listed = match read_listed(rt, words, problem, screen) {
         Ok(listed) => listed,
         Err(refusal) => return Err(refusal),
     };
     let terminal = Terminal::new(screen.lines);
-    let mut source = Passing::new(rt, &terminal, certificate, size_of(rt, name));
+    let size = size_of(rt, text_of(words, "CERT"));
+    let mut source = Passing::new(rt, &terminal, &mut certificate.file, size);
     let mut out = Gathered::new(Cleared::new(ToWrite::new(io::writer(rt)), rt, &terminal));
     let answer = check_on(rt.alloc(), words, &listed, bounds, &mut source, &mut out);
     source.end();

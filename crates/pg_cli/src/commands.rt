@@ -5,8 +5,12 @@ ghost use Rattle.pg_cli.specs.Words.{name_of};
 // A command of the program.
 #[derive(Clone, Copy)]
 pub(crate) enum Command {
-    /// One of a problem, which the words DIAGRAM and LENGTH spell.
+    /// One of a problem, which the words DIAGRAM and LENGTH spell, and of a list of games.
     OfProblem(ProblemCommand),
+    /// A certificate is checked, for a problem and a list of games.
+    Check,
+    /// A certificate is searched for, written and checked, for a problem.
+    Search,
     /// One of a certificate, which the word CERT names, and of the problem of its header.
     OfCertificate(CertificateCommand),
     /// Any other.
@@ -19,10 +23,6 @@ pub(crate) enum ProblemCommand {
     Games,
     /// A game beside those of a list.
     Cooks,
-    /// A certificate is checked.
-    Check,
-    /// A certificate is searched for, written and checked.
-    Search,
 }
 
 #[derive(Clone, Copy)]
@@ -60,9 +60,9 @@ impl Command {
             "count" => Some(Command::Other(OtherCommand::Count)),
             "games" => Some(Command::OfProblem(ProblemCommand::Games)),
             "cooks" => Some(Command::OfProblem(ProblemCommand::Cooks)),
-            "check" => Some(Command::OfProblem(ProblemCommand::Check)),
+            "check" => Some(Command::Check),
             "answer" => Some(Command::OfCertificate(CertificateCommand::Answer)),
-            "search" => Some(Command::OfProblem(ProblemCommand::Search)),
+            "search" => Some(Command::Search),
             "judge" => Some(Command::Other(OtherCommand::Judge)),
             "why" => Some(Command::OfCertificate(CertificateCommand::Why)),
             "page" => Some(Command::OfCertificate(CertificateCommand::Page)),

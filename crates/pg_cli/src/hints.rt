@@ -3,7 +3,7 @@
 
 use crate::lists::{tell_byte, tell_list, tell_misfit};
 use crate::refusals::{Reached, Refusal};
-use crate::spelling::{say_journeys, text_of};
+use crate::spelling::{say_journeys, say_tolls, text_of};
 use clap::ArgMatches;
 use pg_fen::LengthFault;
 use pg_files::first_bytes;
@@ -15,6 +15,7 @@ use pg_report::{
     AnswerFault, AnswerRunFault, CountRunFault, Fault, FenFault, MovesFault, RunFault, SearchFault,
     UpgradeFault,
 };
+use pg_tariff_files::MAGIC;
 use std::fmt::Display;
 use std::io::Eprint;
 use std::rt::Runtime;
@@ -57,6 +58,18 @@ fn tell_packing<R: Runtime + AllocGlobal>(rt: &R, path: &str) {
     }
 }
 
+// Says which word lets a search reach further.
+fn tell_further<R: Eprint>(rt: &R, words: &ArgMatches<'_>) {
+    if say_tolls(words) {
+        return;
+    }
+    if say_journeys(words) {
+        let _ = eprintln!(rt; "pg: --tolls reaches further");
+    } else {
+        let _ = eprintln!(rt; "pg: --journeys reaches further");
+    }
+}
+
 // Says what a search with these words that gave up knows, and what to try.
 fn tell_known<R: Eprint>(rt: &R, words: &ArgMatches<'_>, fault: &SearchFault, known: &Reached) {
     if let SearchFault::Shorter(plies) = fault {
@@ -66,9 +79,7 @@ fn tell_known<R: Eprint>(rt: &R, words: &ArgMatches<'_>, fault: &SearchFault, kn
     tell(rt, &on_limit(known.nodes, known.tree, known.plies));
     tell(rt, &on_known(known.games));
     if *fault == SearchFault::Budget {
-        if !say_journeys(words) {
-            let _ = eprintln!(rt; "pg: --journeys reaches further");
-        }
+        tell_further(rt, words);
         let _ = eprintln!(rt;
             "pg: try `pg cooks` with a game, `pg show DIAGRAM LENGTH` for a forecast, or more --nodes"
         );
@@ -82,10 +93,22 @@ fn tell_full<R: Eprint>(rt: &R, known: &Reached) {
     let _ = eprintln!(rt; "pg: more --bytes let it be longer");
 }
 
+// Says that tariffs stand before a certificate, where the words could say that they are taken; else what packing it
+// looks like.
+fn tell_front<R: Runtime + AllocGlobal>(rt: &R, words: &ArgMatches<'_>) {
+    let path = text_of(words, "CERT");
+    let is_unsaid = words.get_str("tolls") == Some("false");
+    if is_unsaid && first_bytes(rt, path).starts_with(&MAGIC) {
+        let _ = eprintln!(rt; "pg: tariffs stand before it: say --tolls");
+    } else {
+        tell_packing(rt, path);
+    }
+}
+
 // Says what may be wrong with a certificate.
 fn tell_certificate<R: Runtime + AllocGlobal>(rt: &R, words: &ArgMatches<'_>, fault: &Fault) {
     match fault {
-        Fault::Magic | Fault::Truncated => tell_packing(rt, text_of(words, "CERT")),
+        Fault::Magic | Fault::Truncated => tell_front(rt, words),
         Fault::UnknownBound(Journeys::CODE) => {
             let _ = eprintln!(rt; "pg: bound 5 is that by journeys: say --journeys");
         }

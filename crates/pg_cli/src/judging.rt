@@ -13,7 +13,7 @@ ghost use Rattle.pg_cli.specs.Judging.{IsRuled, IsSpoiled, IsStanding};
 ghost use Rattle.pg_cli.specs.Runs.{IsOfFile};
 ghost use Rattle.pg_cli.specs.Words.{spelled};
 
-use crate::bounds::{journeys_to, travel_to};
+use crate::bounds::{journeys_to, tolls_to, travel_to};
 use crate::keeping::{Loose, OnDisk};
 use crate::limits::{Reach, reach_of};
 use crate::refusals::{Named, Refusal};
@@ -34,10 +34,11 @@ use pg_pawns::PawnFiles;
 use pg_san::{GamesFault, next_line};
 use pg_searcher::SearchProgress;
 use pg_streams::{Cleared, Deadline, Gathered, JudgeLine, Passing, Terminal, Until};
+use pg_tariff_files::{CarriedFault, number_of, read_carried};
 use std::alloc::{AllocError, AllocFailed};
 use std::collections::BTreeSet;
 use std::fmt::{Display, Formatter};
-use std::io::Eprint;
+use std::io::{Cursor, Eprint, Read};
 use std::rt::Runtime;
 use std::time::Clock;
 use std::{fmt, io};
@@ -85,6 +86,8 @@ impl<R: Clock + Eprint> JudgeProgress for Watch<'_, R> {
             Effort::Cooks => "cooks",
             Effort::Search => "search",
             Effort::Journeys => "journeys",
+            Effort::Tariffs => "tariffs",
+            Effort::Tolls => "tolls",
         };
         self.line.begin(called, limit);
     }
@@ -190,6 +193,18 @@ fn unsettled(fault: &AnswerFault, is_over: bool) -> Result<Standing, Spoiled>
     }
 }
 
+// What becomes of a problem where the tariffs of the file that stands there are not read.
+fn untold(fault: CarriedFault) -> Result<Standing, Spoiled>
+    ensures ok { (entry : Entry) → IfOk result (IsStanding entry) }
+    ensures err { IfErr result (IsSpoiled false) }
+{
+    match fault {
+        CarriedFault::Number | CarriedFault::Truncated => Ok(Standing::Shown(Old::Refused)),
+        CarriedFault::Memory => Err(Spoiled::Run(Refusal::Memory)),
+        CarriedFault::Read => Err(Spoiled::Place(FileFault::Read)),
+    }
+}
+
 // What a certificate of a problem at this path, if one stands there, comes to within the time that a problem has.
 #[inline(never)]
 fn recheck_at<R: Runtime + AllocGlobal>(
@@ -206,8 +221,13 @@ fn recheck_at<R: Runtime + AllocGlobal>(
     if is_missing(rt, path) {
         return Ok(Standing::Shown(Old::Absent));
     }
-    let file = open_plain(rt, path)?;
-    let passing = Passing::new(rt, terminal, file, size_of(rt, path));
+    let mut file = open_plain(rt, path)?;
+    let front = match read_carried(rt.alloc(), &mut file) {
+        Ok(carried) => carried.front,
+        Err(fault) => return untold(fault),
+    };
+    let whole = Cursor::new(front).chain(file);
+    let passing = Passing::new(rt, terminal, whole, size_of(rt, path));
     let mut source = Until::new(passing, Deadline::new(rt, orders.reach.milliseconds));
     let found = recheck(rt.alloc(), entry, bounds, &mut source, u64::MAX);
     let is_over = source.is_over();
@@ -318,31 +338,65 @@ fn judge_in<R: Runtime + AllocGlobal>(
     }
 }
 
-// Judges a problem, with its certificate in the folder, if certificates are kept.
+// Judges a problem, with its certificate at this path, if certificates are kept.
 fn judge_by<R: Runtime + AllocGlobal>(
     rt: &R,
     entry: &Entry<'_>,
     bounds: &[Box<dyn Bound>],
     orders: &Orders<'_>,
+    path: Option<&str>,
     watch: &mut Watch<'_, R>,
 ) -> Result<Judged, Spoiled>
     ensures ok { IfOk result (λ j. IsFindingOf entry.now j.ruling.finding) }
     ensures err { IfErr result (IsSpoiled false) }
 {
-    let Some(folder) = orders.folder else {
-        let ruling = judge_loosely(rt, entry, bounds, orders, watch);
-        return Ok(Judged {
-            ruling,
+    match path {
+        Some(path) => judge_in(rt, entry, bounds, orders, path, watch),
+        None => Ok(Judged {
+            ruling: judge_loosely(rt, entry, bounds, orders, watch),
             old: Old::Absent,
-        });
-    };
-    let Ok(path) = format!(in rt.alloc(); "{folder}/{}.pgc", entry.name) else {
-        return Err(Spoiled::Run(Refusal::Memory));
-    };
-    judge_in(rt, entry, bounds, orders, path.as_str(), watch)
+        }),
+    }
 }
 
-// Judges a problem by the five bounds.
+// Where the certificate of a problem stands, if certificates are kept.
+fn path_of<R: Runtime + AllocGlobal>(
+    rt: &R,
+    entry: &Entry<'_>,
+    folder: Option<&str>,
+) -> Result<Option<String>, Spoiled>
+    ensures { IfErr result (IsSpoiled false) }
+{
+    let Some(folder) = folder else {
+        return Ok(None);
+    };
+    match format!(in rt.alloc(); "{folder}/{}.pgc", entry.name) {
+        Ok(path) => Ok(Some(path)),
+        Err(_) => Err(Spoiled::Run(Refusal::Memory)),
+    }
+}
+
+// The bytes that state the tariffs of the file at this path, if it is one with tariffs; what else is wrong with it is
+// told where it is checked.
+#[inline(never)]
+fn tariffs_at<R: Runtime + AllocGlobal>(rt: &R, path: Option<&str>) -> Result<Vec<u8>, Spoiled>
+    ensures { IfErr result (IsSpoiled false) }
+{
+    let none = Vec::new(rt.alloc());
+    let Some(path) = path else {
+        return Ok(none);
+    };
+    let Ok(mut file) = open_plain(rt, path) else {
+        return Ok(none);
+    };
+    match read_carried(rt.alloc(), &mut file) {
+        Ok(carried) => Ok(carried.stated),
+        Err(CarriedFault::Memory) => Err(Spoiled::Run(Refusal::Memory)),
+        Err(_) => Ok(none),
+    }
+}
+
+// Judges a problem by the five bounds, and by the tariffs of the file that stands in the place of its certificate.
 fn judge_entry<R: Runtime + AllocGlobal>(
     rt: &R,
     entry: &Entry<'_>,
@@ -357,8 +411,23 @@ fn judge_entry<R: Runtime + AllocGlobal>(
     let pawn_files = Box::new(rt.alloc(), PawnFiles)?;
     let travel = travel_to(rt.alloc(), &entry.problem.diagram)?;
     let journeys = journeys_to(rt.alloc(), &entry.problem.diagram)?;
-    let bounds: [Box<dyn Bound>; 5] = [captures, promotions, pawn_files, travel, journeys];
-    judge_by(rt, entry, &bounds, orders, watch)
+    let five: [Box<dyn Bound>; 5] = [captures, promotions, pawn_files, travel, journeys];
+    let mut bounds = Vec::from_array(rt.alloc(), five)?;
+    let path = match path_of(rt, entry, orders.folder) {
+        Ok(path) => path,
+        Err(spoiled) => return Err(spoiled),
+    };
+    let path = path.as_deref();
+    let tariffs = match tariffs_at(rt, path) {
+        Ok(tariffs) => tariffs,
+        Err(spoiled) => return Err(spoiled),
+    };
+    for number in 0..number_of(tariffs.as_slice()) {
+        let diagram = &entry.problem.diagram;
+        let tolls: Box<dyn Bound> = tolls_to(rt.alloc(), diagram, tariffs.as_slice(), number)?;
+        bounds.push(tolls)?;
+    }
+    judge_by(rt, entry, bounds.as_slice(), orders, path, watch)
 }
 
 // The status of a ruling: 0 where it is said that the problem is sound, else 1.

@@ -20,7 +20,7 @@ use pg_cooks::{
     CookAnswer, CooksFault, CooksRunFault, LedLimits, LedProgress, Standing, run_cooks, run_games,
 };
 use pg_files::{INPUT, is_input, list};
-use pg_report::{Fault, Games, Problem, RunFault, Sink, ToWrite};
+use pg_report::{Fault, Games, Problem, ProblemFault, RunFault, Sink, ToWrite};
 use pg_san::read_games;
 use pg_streams::{Cleared, Deadline, Gathered, LedLine, Terminal, Timed};
 use std::alloc::Global;
@@ -69,7 +69,7 @@ pub(crate) struct Listed {
 // refused.
 fn listed_in(
     alloc: Global,
-    problem: Result<Problem, Refusal>,
+    problem: Result<Problem, ProblemFault>,
     list: &[u8],
 ) -> Result<Listed, Refusal>
     ensures problem { IfOk result (λ l. problem ≡ Ok l.problem) }
@@ -82,7 +82,7 @@ fn listed_in(
     };
     let problem = match problem {
         Ok(problem) => problem,
-        Err(refusal) => return Err(refusal),
+        Err(fault) => return Err(Refusal::of_problem(fault)),
     };
     match read_games(alloc, text) {
         Ok(games) => Ok(Listed { problem, games }),
@@ -97,7 +97,7 @@ fn listed_in(
 fn listed_from<R: Runtime + AllocGlobal>(
     rt: &R,
     name: &str,
-    problem: Result<Problem, Refusal>,
+    problem: Result<Problem, ProblemFault>,
 ) -> Result<Listed, Refusal>
     ensures problem { IfOk result (λ l. problem ≡ Ok l.problem) }
     ensures games { IfOk result (λ l. (text : List ℕ) × IsListing text l.games) }
@@ -115,7 +115,7 @@ fn listed_from<R: Runtime + AllocGlobal>(
 pub(crate) fn read_listed<R: Runtime + AllocGlobal>(
     rt: &R,
     words: &ArgMatches<'_>,
-    problem: Result<Problem, Refusal>,
+    problem: Result<Problem, ProblemFault>,
     screen: Screen,
 ) -> Result<Listed, Refusal>
     ensures problem { IfOk result (λ l. problem ≡ Ok l.problem) }
@@ -133,7 +133,7 @@ pub(crate) fn read_listed<R: Runtime + AllocGlobal>(
             );
             listed_from(rt, name, Ok(problem))
         }
-        Err(refusal) => Err(refusal),
+        Err(fault) => Err(Refusal::of_problem(fault)),
     }
 }
 
@@ -206,7 +206,7 @@ pub(crate) fn cooks_from<P: LedProgress, W: Sink>(
 pub(crate) fn games<R: Runtime + AllocGlobal>(
     rt: &R,
     words: &ArgMatches<'_>,
-    problem: Result<Problem, Refusal>,
+    problem: Result<Problem, ProblemFault>,
     screen: Screen,
 ) -> Result<u8, Refusal>
     ensures { IfOk result (λ status. OfGiven problem (λ d n. says_of_problem TheGames d n status)) }
@@ -222,7 +222,7 @@ pub(crate) fn games<R: Runtime + AllocGlobal>(
 pub(crate) fn cooks<R: Runtime + AllocGlobal>(
     rt: &R,
     words: &ArgMatches<'_>,
-    problem: Result<Problem, Refusal>,
+    problem: Result<Problem, ProblemFault>,
     screen: Screen,
 ) -> Result<u8, Refusal>
     ensures { IfOk result (λ status. OfGiven problem (λ d n. says_of_problem TheCooks d n status)) }

@@ -3,15 +3,16 @@
 //! DIAGRAM LENGTH CERT [GAMES] [--records N]`, `pg answer CERT [--records N]`, `pg search DIAGRAM LENGTH CERT
 //! [--nodes N] [--games FILE]`, `pg judge PROBLEMS [--certificates FOLDER] [--nodes N]`, `pg why CERT MOVES
 //! [--records N]`, `pg page CERT [--records N] [--nodes K]` and `pg upgrade OLD NEW [--records N]`; `--journeys` stands
-//! behind `check`, `answer`, `search`, `judge`, `why` and `page`, `--minutes M` behind `cooks`, `search` and `judge`.
+//! behind `check`, `answer`, `search`, `judge`, `why` and `page`, `--tolls` behind `check` and, with `--no-journeys`,
+//! behind `search`, `--minutes M` behind `cooks`, `search` and `judge`.
 #![tactic(auto)]
 
-ghost use Rattle.std.specs.Prelude.{◌≡◌, ◌⊎◌, ◌↔◌, IsTrue, IfOk, IfErr};
+ghost use Rattle.std.specs.Prelude.{◌≡◌, ◌⊎◌, ◌↔◌, ◌<◌, length, codes, IsTrue, IfOk, IfErr};
 ghost use Rattle.clap.specs.Words.{found_of, rows_of};
 ghost use Rattle.pg_cli.specs.Answers.{IsGivenBy, IsNamedBy, OfGiven};
-ghost use Rattle.pg_cli.specs.Asking.{refuses_as_asked, says_as_asked};
-ghost use Rattle.pg_cli.specs.Ending.{IsEnd, IsUnready, refuses, refuses_problem};
-ghost use Rattle.pg_cli.specs.Words.{GoesByJourneys, IsStatus, says, says_of_problem, says_of_words};
+ghost use Rattle.pg_cli.specs.Asking.{GoesByJourneys, refuses_as_asked, says_as_asked};
+ghost use Rattle.pg_cli.specs.Ending.{IsEnd, IsUnready, refuses};
+ghost use Rattle.pg_cli.specs.Words.{IsStatus, Says, says, says_of_problem, says_of_words};
 
 mod answering;
 mod asked;
@@ -35,19 +36,20 @@ mod telling;
 mod upgrading;
 
 use crate::asked::{Asked, asked_by};
-use crate::bounds::{journeys_to, travel_to};
+use crate::bounds::{journeys_to, tolls_to, travel_to};
 use crate::commands::{Command, OtherCommand, ProblemCommand};
 use crate::hints::{advise, advise_words};
 use crate::limits::are_minutes;
 use crate::refusals::{BAD_INPUT, DONE, NO_FILE, Refusal, refuse};
 use crate::screen::{Screen, is_dumb};
-use crate::spelling::{nameless_in, say_journeys, text_of};
+use crate::spelling::{nameless_in, say_journeys, say_no_journeys, say_tolls, text_of};
 use crate::telling::tell;
 use clap::ArgMatches;
 use clap::error::ErrorKind;
 use pg_files::FileName;
 use pg_journeys::Journeys;
-use pg_report::{Bound, Captures, PawnFiles, Problem, Promotions, Travel};
+use pg_report::{Bound, Captures, PawnFiles, Problem, ProblemFault, Promotions, Travel};
+use pg_tariff_files::number_of;
 use pg_words::pg;
 use std::fs::File;
 use std::io::{IsTerminal, Read};
@@ -55,13 +57,57 @@ use std::process::ExitCode;
 use std::rt::Runtime;
 use std::{env, io};
 
-// Whether a command with these words goes by the bound by journeys too: `show` always, others where their words say so.
-fn goes_by_journeys(command: Command, words: &ArgMatches<'_>) -> bool
-    ensures { IsTrue result ↔ GoesByJourneys command (rows_of (found_of words.now)) }
+// Whether a check with these words goes by journeys too.
+fn checks_by_journeys(words: &ArgMatches<'_>) -> bool
+    ensures { IsTrue result ↔ (Says (codes "journeys") (rows_of (found_of words.now))
+        ⊎ Says (codes "tolls") (rows_of (found_of words.now))) }
 {
-    match command {
-        Command::Other(OtherCommand::Show) => true,
-        _ => say_journeys(words),
+    say_journeys(words) || say_tolls(words)
+}
+
+// Whether the words of a search say of tolls that journeys go with them.
+fn joins_journeys(words: &ArgMatches<'_>) -> bool
+    ensures { IsTrue result ↔ (Says (codes "tolls") (rows_of (found_of words.now))
+        × ¬ Says (codes "no-journeys") (rows_of (found_of words.now))) }
+{
+    say_tolls(words) && !say_no_journeys(words)
+}
+
+// Whether a search with these words goes by journeys too.
+fn searches_by_journeys(words: &ArgMatches<'_>) -> bool
+    ensures { IsTrue result ↔ (Says (codes "journeys") (rows_of (found_of words.now))
+        ⊎ (Says (codes "tolls") (rows_of (found_of words.now))
+        × ¬ Says (codes "no-journeys") (rows_of (found_of words.now)))) }
+{
+    say_journeys(words) || joins_journeys(words)
+}
+
+// Whether bytes state tariffs.
+fn state_some(tariffs: &[u8]) -> bool
+    ensures { IsTrue result ↔ (0 < length tariffs.now) }
+{
+    !tariffs.is_empty()
+}
+
+// Whether a certificate with these tariffs is read by journeys too, with these words.
+fn reads_by_journeys(tariffs: &[u8], words: &ArgMatches<'_>) -> bool
+    ensures { IsTrue result ↔ (Says (codes "journeys") (rows_of (found_of words.now)) ⊎ (0 < length tariffs.now)) }
+{
+    say_journeys(words) || state_some(tariffs)
+}
+
+// Whether what is asked with these words is gone about by the bound by journeys too.
+fn goes_by_journeys<F>(asked: &Asked<F>, words: &ArgMatches<'_>) -> bool
+    ensures { IsTrue result ↔ GoesByJourneys asked.now (rows_of (found_of words.now)) }
+{
+    match asked {
+        Asked::Other(OtherCommand::Show) => true,
+        Asked::Check(_, _) => checks_by_journeys(words),
+        Asked::Search(_) => searches_by_journeys(words),
+        Asked::File(_, certificate) => {
+            reads_by_journeys(certificate.carrying.stated.as_slice(), words)
+        }
+        _ => false,
     }
 }
 
@@ -81,24 +127,20 @@ fn ready(words: &ArgMatches<'_>) -> Result<(), Refusal>
     }
 }
 
-// Does a command on a problem. No command is inlined here or in `other`: the frame of this call would hold what each of
-// them needs, and lie below them all.
-fn on_problem<R: Runtime + AllocGlobal>(
+// Does a command on a problem and a list of games. No command is inlined here, in `other` or in `serve`: the frame of
+// this call would hold what each of them needs, and lie below them all.
+fn on_list<R: Runtime + AllocGlobal>(
     rt: &R,
     command: ProblemCommand,
     words: &ArgMatches<'_>,
-    problem: Result<Problem, Refusal>,
-    bounds: &[Box<dyn Bound>],
+    problem: Result<Problem, ProblemFault>,
     screen: Screen,
 ) -> Result<u8, Refusal>
-    ensures ok { IfOk result (λ status. OfGiven problem (λ d n. says_of_problem command d n status)) }
-    ensures err { IfErr result (λ refusal. refuses_problem command problem refusal) }
+    ensures { IfOk result (λ status. OfGiven problem (λ d n. says_of_problem command d n status)) }
 {
     match command {
         ProblemCommand::Games => knowing::games(rt, words, problem, screen),
         ProblemCommand::Cooks => knowing::cooks(rt, words, problem, screen),
-        ProblemCommand::Check => checking::check(rt, words, problem, bounds, screen),
-        ProblemCommand::Search => searching::search(rt, words, problem, bounds, screen.lines),
     }
 }
 
@@ -123,12 +165,68 @@ fn other<R: Runtime + AllocGlobal>(
     }
 }
 
+// The bytes that state the tariffs by which what is asked is gone about: those that stand before the certificate that
+// is read, or those that are found for a search where its words say so; else none.
+//
+// # Errors
+// `Memory` where a growth was refused, and those of `find_for`.
+#[inline(never)]
+fn tariffs_for<R: Runtime + AllocGlobal, F>(
+    rt: &R,
+    words: &ArgMatches<'_>,
+    asked: &Asked<F>,
+    bounds: &[Box<dyn Bound>],
+    screen: Screen,
+) -> Result<Vec<u8>, Refusal>
+    ensures { IfErr result (λ refusal. IsUnready refusal
+        ⊎ refuses_as_asked (rows_of (found_of words.now)) asked.now refusal) }
+{
+    match asked {
+        Asked::Check(_, carrying) => Ok(Vec::from_slice(rt.alloc(), carrying.stated.as_slice())?),
+        Asked::File(_, certificate) => {
+            Ok(Vec::from_slice(rt.alloc(), certificate.carrying.stated.as_slice())?)
+        }
+        Asked::Search(Ok(problem)) if say_tolls(words) => {
+            searching::find_for(rt, words, problem, bounds, screen.lines)
+        }
+        _ => Ok(Vec::new(rt.alloc())),
+    }
+}
+
+// Does a command on what it is asked of, with its bounds, and with the tariffs among them as bytes.
+fn serve<R: Runtime + AllocGlobal, F: Read + Drop>(
+    rt: &R,
+    words: &ArgMatches<'_>,
+    asked: Asked<F>,
+    tariffs: &[u8],
+    bounds: &[Box<dyn Bound>],
+    screen: Screen,
+) -> Result<u8, Refusal>
+    ensures ok { IfOk result (λ status. says_as_asked (IsGivenBy R.File.remaining R.Reader.remaining)
+        (rows_of (found_of words.now)) asked status) }
+    ensures err { IfErr result (λ refusal. IsUnready refusal
+        ⊎ refuses_as_asked (rows_of (found_of words.now)) asked refusal) }
+{
+    match asked {
+        Asked::Words(command, problem) => on_list(rt, command, words, problem, screen),
+        Asked::Check(problem, mut carrying) => {
+            checking::check(rt, words, problem, &mut carrying, bounds, screen)
+        }
+        Asked::Search(problem) => {
+            searching::search(rt, words, problem, tariffs, bounds, screen.lines)
+        }
+        Asked::File(command, mut certificate) => {
+            tell(rt, command, words, &mut certificate, bounds, screen.lines)
+        }
+        Asked::Other(command) => other(rt, command, words, bounds, screen),
+    }
+}
+
 // Does a command on what it is asked of, with the bounds in the order of their codes, which are made for its diagram
 // where that is known. They are made here, in the call that lends them: what a call that hands out a `dyn` claims would
 // hang on its body.
 fn lend<R: Runtime + AllocGlobal, F: Read + Drop>(
     rt: &R,
-    command: Command,
     words: &ArgMatches<'_>,
     asked: Asked<F>,
     screen: Screen,
@@ -148,21 +246,39 @@ fn lend<R: Runtime + AllocGlobal, F: Read + Drop>(
     };
     let four: [Box<dyn Bound>; 4] = [captures, promotions, pawn_files, travel];
     let mut bounds = Vec::from_array(rt.alloc(), four)?;
-    if goes_by_journeys(command, words) {
+    if goes_by_journeys(&asked, words) {
         let journeys: Box<dyn Bound> = match &diagram {
             Some(diagram) => journeys_to(rt.alloc(), diagram)?,
             None => Box::new(rt.alloc(), Journeys)?,
         };
         bounds.push(journeys)?;
     }
-    let bounds = bounds.as_slice();
-    match asked {
-        Asked::Words(command, problem) => on_problem(rt, command, words, problem, bounds, screen),
-        Asked::File(command, mut certificate) => {
-            tell(rt, command, words, &mut certificate, bounds, screen.lines)
-        }
-        Asked::Other(command) => other(rt, command, words, bounds, screen),
+    let tariffs = match tariffs_for(rt, words, &asked, bounds.as_slice(), screen) {
+        Ok(tariffs) => tariffs,
+        Err(refusal) => return Err(refusal),
+    };
+    let Some(diagram) = diagram else {
+        return serve(
+            rt,
+            words,
+            asked,
+            tariffs.as_slice(),
+            bounds.as_slice(),
+            screen,
+        );
+    };
+    for number in 0..number_of(tariffs.as_slice()) {
+        let tolls: Box<dyn Bound> = tolls_to(rt.alloc(), &diagram, tariffs.as_slice(), number)?;
+        bounds.push(tolls)?;
     }
+    serve(
+        rt,
+        words,
+        asked,
+        tariffs.as_slice(),
+        bounds.as_slice(),
+        screen,
+    )
 }
 
 // Does a command with its words. A status of `check` or `search` means that a list is the exact answer to the diagram and
@@ -187,7 +303,7 @@ fn perform<R: Runtime + AllocGlobal>(
         Err(refusal) => return Err(refusal),
     }
     match asked_by(rt, command, words) {
-        Ok(asked) => lend(rt, command, words, asked, screen),
+        Ok(asked) => lend(rt, words, asked, screen),
         Err(refusal) => Err(refusal),
     }
 }

@@ -1,15 +1,17 @@
 //! Why a command ends without its answer, what the program says then, and its status.
 ghost use Rattle.std.specs.Prelude.{◌≡◌, ◌<◌, false, true};
-ghost use Rattle.pg_cli.specs.Refusals.{file_refusal, listing_refusal, refusal_status};
+ghost use Rattle.pg_report.specs.Run.{of_problem};
+ghost use Rattle.pg_cli.specs.Refusals.{file_refusal, listing_refusal, refusal_status, tariffs_status};
 
 use pg_cooks::ListingFault;
 use pg_files::{FileFault, FileName, Obstacle};
 use pg_report::{
-    AnswerRunFault, CountRunFault, Fault, MovesFault, Refused, RunFault, SearchFault, ShowFault,
-    Sink, UpgradeFault, answer_status, count_status, moves_status, search_status, show_status,
-    status, upgrade_status, write_movetext,
+    AnswerRunFault, CountRunFault, Fault, MovesFault, ProblemFault, Refused, RunFault, SearchFault,
+    ShowFault, Sink, UpgradeFault, answer_status, count_status, moves_status, search_status,
+    show_status, status, upgrade_status, write_movetext,
 };
 use pg_streams::Gathered;
+use pg_tariff_files::CarriedFault;
 use std::alloc::{AllocError, AllocFailed};
 use std::fmt::{Display, Formatter, Write};
 use std::io::Eprint;
@@ -148,6 +150,21 @@ pub(crate) enum Refusal {
     /// A certificate has no report of its games.
     #[error("{0}")]
     Answer(AnswerRunFault),
+    /// The tariffs of a file are not read.
+    #[error("{0}")]
+    Tariffs(CarriedFault),
+}
+
+// The status where the tariffs of a file are not read.
+fn tariffs_status(fault: CarriedFault) -> u8
+    ensures value { result ≡ tariffs_status fault }
+    ensures fails { 0 < result }
+{
+    match fault {
+        CarriedFault::Read => FILES,
+        CarriedFault::Memory => MEMORY,
+        CarriedFault::Number | CarriedFault::Truncated => GAVE_UP,
+    }
 }
 
 impl Refusal {
@@ -161,6 +178,13 @@ impl Refusal {
             FileFault::Write => Refusal::Write,
             FileFault::Memory => Refusal::Memory,
         }
+    }
+
+    // Why words are no problem, as a refusal.
+    pub(crate) fn of_problem(fault: ProblemFault) -> Refusal
+        ensures { result ≡ Refusal.Check (of_problem fault) }
+    {
+        Refusal::Check(RunFault::of_problem(fault))
     }
 
     // Why a list is not written, as a refusal.
@@ -192,6 +216,7 @@ impl Refusal {
             Refusal::Upgrade(fault) => upgrade_status(fault),
             Refusal::Check(fault) => status(fault),
             Refusal::Answer(fault) => answer_status(fault),
+            Refusal::Tariffs(fault) => tariffs_status(*fault),
         }
     }
 }

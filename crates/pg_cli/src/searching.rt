@@ -7,11 +7,9 @@ ghost use Rattle.pg_streams.specs.Buffer.{sink_of};
 ghost use Rattle.pg_texts.specs.Report.{IsReport};
 ghost use Rattle.clap.specs.Words.{first_of, found_of, rows_of};
 ghost use Rattle.pg_cli.specs.Answers.{HasAnswer, IsAnswered, OfGiven};
-ghost use Rattle.pg_cli.specs.Ending.{refuses_problem};
+ghost use Rattle.pg_cli.specs.Ending.{IsSearchRefused};
 ghost use Rattle.pg_cli.specs.Runs.{AreMet, IsGivenUp, IsOfFile, IsOfSink, IsSearchRefusal};
 ghost use Rattle.pg_cli.specs.Runs.{search_refusal};
-ghost use Rattle.pg_cli.specs.Words.{says_of_problem};
-ghost use Rattle.pg_cli.specs.declared.commands.ProblemCommand.TheVariants.{Search as TheSearch};
 
 use crate::checking::check_listed;
 use crate::knowing::Listed;
@@ -21,9 +19,14 @@ use crate::spelling::{RECORDS, text_of};
 use clap::ArgMatches;
 use pg_cooks::{standing_on, write_solutions};
 use pg_files::{Draft, Obstacle, begin, begin_apart, stand_at_one};
-use pg_report::{Bound, Fault, Games, Problem, Refused, RunFault, SearchFault, Sink, ToWrite};
-use pg_searcher::{Met, search_by_journeys};
+use pg_report::{
+    Bound, Fault, Games, Problem, ProblemFault, Refused, RunFault, SearchFault, Sink, ToWrite,
+};
+use pg_searcher::{FoundTariffs, Met, find_tariffs, search_by_tolls};
 use pg_streams::{Cleared, Deadline, Gathered, Limited, Passing, SearchLine, Terminal, Timed};
+use pg_tariff_files::{BYTES, MAGIC, number_of, stating_all, tariff_at, write_carried};
+use pg_tolls::Tariff;
+use std::alloc::{AllocError, Global};
 use std::io;
 use std::io::{Read, Seek, SeekFrom, Write};
 use std::rt::Runtime;
@@ -31,69 +34,187 @@ use std::rt::Runtime;
 // The most nodes of a search, where the words do not say it.
 const NODES: u64 = 1_000_000;
 
-// What a search came to: the games that it found, or why it has none; those that it met, each tested; how far it came;
-// and whether the certificate had no more room.
+// Tolls alike for both sides and all squares: what a file has whose search found no tariffs.
+const PLAIN: Tariff = Tariff {
+    weights: [16, 16],
+    tolls: [[0; 64]; 2],
+};
+
+// How a search goes: how far, and the bytes that state the tariffs by which it cuts, if there are any.
+#[derive(Clone, Copy)]
+pub(crate) struct Means<'a> {
+    pub(crate) reach: Reach,
+    pub(crate) tariffs: &'a [u8],
+}
+
+// What a search came to: what it found, the games or tariffs, or why it has none; the games that it met, each tested;
+// how far it came; and whether the certificate had no more room.
 #[derive(Drop)]
-pub(crate) struct Searched {
-    found: Result<Games, SearchFault>,
+pub(crate) struct Searched<T> {
+    found: Result<T, SearchFault>,
     met: Games,
     known: Reached,
     is_full: bool,
 }
 
-// Searches, and writes the certificate to a writer.
+// How a search ended, as `Met` was told: whether memory was refused for a game, the tree at work, and how many nodes
+// more were allowed.
+#[derive(Clone, Copy)]
+struct Ended {
+    is_short: bool,
+    tree: u8,
+    left: u64,
+}
+
+// How far a search of so many nodes came, by the games that it met, which are tested.
 //
-// # Errors `Memory` where a growth was refused for a game that was met; `Check` with `Listed` where such a game is no
-// solution, which should not be.
+// # Errors
+// `Memory` where a growth was refused for a game that was met; `Check` with `Listed` where such a game is no solution,
+// which should not be.
+fn known_of(problem: &Problem, games: &Games, nodes: u64, ended: Ended) -> Result<Reached, Refusal>
+    ensures ok { IfOk result (AreMet problem.now.diagram problem.now.length) }
+    ensures err { IfErr result (IsSearchRefusal problem.now.diagram problem.now.length) }
+{
+    if ended.is_short {
+        return Err(Refusal::Memory);
+    }
+    match standing_on(&problem.diagram, problem.length, games) {
+        Ok(_) => Ok(Reached {
+            games: games.len(),
+            nodes: nodes.saturating_sub(ended.left),
+            tree: ended.tree,
+            plies: problem.length.plies(),
+        }),
+        Err(fault) => Err(Refusal::Check(RunFault::Check(Fault::Listed(fault)))),
+    }
+}
+
+// The tariffs that bytes state.
+fn tariffs_of(alloc: Global, stated: &[u8]) -> Result<Vec<Tariff>, AllocError> {
+    let mut tariffs = Vec::new(alloc);
+    for number in 0..number_of(stated) {
+        tariffs.push(tariff_at(stated, number))?;
+    }
+    Ok(tariffs)
+}
+
+// Writes what stands before a certificate by these tariffs, if there are any. A sink that refuses it refuses what is
+// written behind it too.
+fn write_lead<W: Sink>(tariffs: &[u8], sink: &mut W) {
+    if !tariffs.is_empty() {
+        let _ = write_carried(number_of(tariffs), tariffs, sink);
+    }
+}
+
+// How many bytes that are.
+fn lead_of(tariffs: &[u8]) -> u64 {
+    if tariffs.is_empty() {
+        0
+    } else {
+        (MAGIC.len() + 1 + BYTES * usize::from(number_of(tariffs))) as u64
+    }
+}
+
+// Searches, and writes the certificate to a writer, behind its tariffs.
+//
+// # Errors
+// `Memory` where a growth was refused for tariffs; and those of `known_of`.
 #[inline(never)]
 pub(crate) fn search_to<R: Runtime + AllocGlobal, W: Write + Drop>(
     rt: &R,
     problem: &Problem,
     bounds: &[Box<dyn Bound>],
     certificate: W,
-    reach: Reach,
+    means: Means<'_>,
     terminal: &Terminal,
-) -> Result<Searched, Refusal>
+) -> Result<Searched<Games>, Refusal>
     ensures found { IfOk result (λ searched. IfErr searched.found (λ fault. IsGivenUp problem.now.length fault)) }
     ensures met { IfOk result (λ searched. AreMet problem.now.diagram problem.now.length searched.known) }
     ensures err { IfErr result (λ refusal. IsSearchRefusal problem.now.diagram problem.now.length refusal) }
 {
-    let mut sink = ToWrite::new(Limited::new(certificate, reach.bytes));
-    let nodes = reach.nodes;
+    let Ok(tariffs) = tariffs_of(rt.alloc(), means.tariffs) else {
+        return Err(Refusal::Memory);
+    };
+    let mut sink = ToWrite::new(Limited::new(certificate, means.reach.bytes));
+    write_lead(means.tariffs, &mut sink);
+    let nodes = means.reach.nodes;
     let line = SearchLine::new(rt, terminal, nodes);
-    let mut timed = Timed::new(line, Deadline::new(rt, reach.milliseconds));
+    let mut timed = Timed::new(line, Deadline::new(rt, means.reach.milliseconds));
     let mut games = Games::new(rt.alloc());
     let mut met = Met::new(&mut timed, &mut games, nodes);
-    let found = search_by_journeys(
+    let found = search_by_tolls(
         rt.alloc(),
         &problem.diagram,
         problem.length,
         nodes,
         bounds,
+        tariffs.as_slice(),
         &mut sink,
         &mut met,
     );
     let (is_short, tree, left) = (met.is_short, met.tree, met.left);
     timed.line.end();
-    if is_short {
-        return Err(Refusal::Memory);
-    }
-    match standing_on(&problem.diagram, problem.length, &games) {
-        Ok(_) => {}
-        Err(fault) => return Err(Refusal::Check(RunFault::Check(Fault::Listed(fault)))),
-    }
-    let known = Reached {
-        games: games.len(),
-        nodes: nodes.saturating_sub(left),
+    let ended = Ended {
+        is_short,
         tree,
-        plies: problem.length.plies(),
+        left,
     };
-    Ok(Searched {
-        found,
-        met: games,
-        known,
-        is_full: sink.into_inner().is_full(),
-    })
+    match known_of(problem, &games, nodes, ended) {
+        Ok(known) => Ok(Searched {
+            found,
+            met: games,
+            known,
+            is_full: sink.into_inner().is_full(),
+        }),
+        Err(refusal) => Err(refusal),
+    }
+}
+
+// Searches for tariffs, and writes nothing.
+//
+// # Errors
+// Those of `known_of`.
+#[inline(never)]
+fn find_to<R: Runtime + AllocGlobal>(
+    rt: &R,
+    problem: &Problem,
+    bounds: &[Box<dyn Bound>],
+    reach: Reach,
+    terminal: &Terminal,
+) -> Result<Searched<FoundTariffs>, Refusal>
+    ensures found { IfOk result (λ searched. IfErr searched.found (λ fault. IsGivenUp problem.now.length fault)) }
+    ensures met { IfOk result (λ searched. AreMet problem.now.diagram problem.now.length searched.known) }
+    ensures err { IfErr result (λ refusal. IsSearchRefusal problem.now.diagram problem.now.length refusal) }
+{
+    let nodes = reach.nodes;
+    let line = SearchLine::new(rt, terminal, nodes);
+    let mut timed = Timed::new(line, Deadline::new(rt, reach.milliseconds));
+    let mut games = Games::new(rt.alloc());
+    let mut met = Met::new(&mut timed, &mut games, nodes);
+    let found = find_tariffs(
+        rt.alloc(),
+        &problem.diagram,
+        problem.length,
+        nodes,
+        bounds,
+        &mut met,
+    );
+    let (is_short, tree, left) = (met.is_short, met.tree, met.left);
+    timed.line.end();
+    let ended = Ended {
+        is_short,
+        tree,
+        left,
+    };
+    match known_of(problem, &games, nodes, ended) {
+        Ok(known) => Ok(Searched {
+            found,
+            met: games,
+            known,
+            is_full: false,
+        }),
+        Err(refusal) => Err(refusal),
+    }
 }
 
 // Why a search has no certificate, with what is known then.
@@ -146,8 +267,8 @@ pub(crate) struct Drafts<F> {
 }
 
 // Searches, writes the certificate to its new file and the games that were met to the list's, if one is wanted; reads
-// the certificate again from there and checks it, and writes the report; the status of its verdict. With a refusal
-// nothing is written, but where the sink refuses it.
+// the certificate again from there, behind its tariffs, and checks it, and writes the report; the status of its
+// verdict. With a refusal nothing is written, but where the sink refuses it.
 pub(crate) fn search_in<R, F, W>(
     rt: &R,
     problem: &Problem,
@@ -155,7 +276,7 @@ pub(crate) fn search_in<R, F, W>(
     drafts: &mut Drafts<F>,
     terminal: &Terminal,
     out: &mut Gathered<W>,
-    reach: Reach,
+    means: Means<'_>,
 ) -> Result<u8, Refusal>
 where
     R: Runtime + AllocGlobal,
@@ -169,7 +290,7 @@ where
     ensures unwritten { IfErr result (λ refusal. ¬ IsOfSink refusal → out.new ≡ out.old) }
 {
     let certificate = &mut drafts.certificate.file;
-    let searched = match search_to(rt, problem, bounds, certificate, reach, terminal) {
+    let searched = match search_to(rt, problem, bounds, certificate, means, terminal) {
         Ok(searched) => searched,
         Err(refusal) => return Err(refusal),
     };
@@ -189,10 +310,11 @@ where
         Err(fault) => return Err(gave_up(fault, known)),
     };
     let size = drafts.certificate.file.seek(SeekFrom::End(0)).ok();
-    if drafts.certificate.file.seek(SeekFrom::Start(0)).is_err() {
+    let lead = lead_of(means.tariffs);
+    if drafts.certificate.file.seek(SeekFrom::Start(lead)).is_err() {
         return Err(Refusal::Read);
     }
-    let records = records_for(reach.nodes);
+    let records = records_for(means.reach.nodes);
     let mut source = Passing::new(rt, terminal, &mut drafts.certificate.file, size);
     let listed = Listed {
         problem: *problem,
@@ -323,6 +445,92 @@ fn end_both<R: Runtime + AllocGlobal>(rt: &R, drafts: Drafts<R::File>, refusal: 
     refusal
 }
 
+// Discards both files.
+fn discard_both<R: Runtime + AllocGlobal>(rt: &R, drafts: Drafts<R::File>) {
+    let Drafts { certificate, list } = drafts;
+    certificate.discard(rt);
+    if let Some(list) = list {
+        list.discard(rt);
+    }
+}
+
+// Keeps the games that a search for tariffs met which has none, as `end_both` does.
+#[inline(never)]
+fn keep_met<R: Runtime + AllocGlobal>(
+    rt: &R,
+    words: &ArgMatches<'_>,
+    problem: &Problem,
+    met: &Games,
+    refusal: Refusal,
+) -> Refusal
+    ensures { (result ≡ refusal) ⊎ (IsOfFile result
+        ⊎ IsSearchRefusal problem.now.diagram problem.now.length result) }
+{
+    let mut drafts = match begin_both(rt, words) {
+        Ok(drafts) => drafts,
+        Err(other) => return other,
+    };
+    match write_list(problem, met, &mut drafts.list) {
+        Ok(()) => end_both(rt, drafts, refusal),
+        Err(other) => {
+            discard_both(rt, drafts);
+            other
+        }
+    }
+}
+
+// The bytes that state tariffs, or that state the plain one where there are none.
+fn stating_some(alloc: Global, tariffs: &[Tariff]) -> Result<Vec<u8>, Refusal>
+    ensures { IfErr result IsOfFile }
+{
+    let stated = if tariffs.is_empty() {
+        stating_all(alloc, &[PLAIN])
+    } else {
+        stating_all(alloc, tariffs)
+    };
+    match stated {
+        Ok(stated) => Ok(stated),
+        Err(_) => Err(Refusal::Memory),
+    }
+}
+
+// The bytes that state the tariffs by which the games of a problem are searched for, at least one. They are found by a
+// search of its own. Before it begins it is tried whether the files of the words can be begun.
+//
+// # Errors
+// Those of `begin_both`; why the search gave up; `Memory` where a growth was refused.
+#[inline(never)]
+pub(crate) fn find_for<R: Runtime + AllocGlobal>(
+    rt: &R,
+    words: &ArgMatches<'_>,
+    problem: &Problem,
+    bounds: &[Box<dyn Bound>],
+    screen: bool,
+) -> Result<Vec<u8>, Refusal>
+    ensures { IfErr result (λ refusal. IsOfFile refusal
+        ⊎ IsSearchRefusal problem.now.diagram problem.now.length refusal) }
+{
+    match begin_both(rt, words) {
+        Ok(drafts) => discard_both(rt, drafts),
+        Err(refusal) => return Err(refusal),
+    }
+    let terminal = Terminal::new(screen);
+    let searched = match find_to(rt, problem, bounds, reach_of(words, NODES), &terminal) {
+        Ok(searched) => searched,
+        Err(refusal) => return Err(refusal),
+    };
+    let Searched {
+        found,
+        met,
+        known,
+        ..
+    } = searched;
+    match found {
+        Ok(found) => stating_some(rt.alloc(), found.tariffs.as_slice()),
+        Err(fault) => Err(keep_met(rt, words, problem, &met, gave_up(fault, known))),
+    }
+}
+
 // Searches for the games of a problem: the certificate is written beside its place, checked from there and put in its
 // place once the report stands on standard output. Else it is taken away, and what stood there is as it was. So is the
 // list that the words may want, but a search that gives up puts it there too, if it met a game.
@@ -330,6 +538,7 @@ fn search_for<R: Runtime + AllocGlobal>(
     rt: &R,
     words: &ArgMatches<'_>,
     problem: &Problem,
+    tariffs: &[u8],
     bounds: &[Box<dyn Bound>],
     screen: bool,
 ) -> Result<u8, Refusal>
@@ -337,14 +546,17 @@ fn search_for<R: Runtime + AllocGlobal>(
     ensures err { IfErr result (λ refusal. IsOfFile refusal
         ⊎ IsSearchRefusal problem.now.diagram problem.now.length refusal) }
 {
-    let reach = reach_of(words, NODES);
+    let means = Means {
+        reach: reach_of(words, NODES),
+        tariffs,
+    };
     let mut drafts = match begin_both(rt, words) {
         Ok(drafts) => drafts,
         Err(refusal) => return Err(refusal),
     };
     let terminal = Terminal::new(screen);
     let mut out = Gathered::new(Cleared::new(ToWrite::new(io::writer(rt)), rt, &terminal));
-    match search_in(rt, problem, bounds, &mut drafts, &terminal, &mut out, reach) {
+    match search_in(rt, problem, bounds, &mut drafts, &terminal, &mut out, means) {
         Ok(status) => match put_both(rt, drafts) {
             Ok(()) => Ok(status),
             Err(refusal) => Err(refusal),
@@ -353,23 +565,24 @@ fn search_for<R: Runtime + AllocGlobal>(
     }
 }
 
-// `pg search`: games are searched for, and a certificate is written and checked. A status means that a list is the
-// exact answer to the problem, and 0 that it has one game. The games that a search which gave up says
-// to have met solve the problem.
+// `pg search`: games are searched for, by these tariffs if there are any, and a certificate is written and checked. A
+// status means that a list is the exact answer to the problem, and 0 that it has one game. The games that a search which
+// gave up says to have met solve the problem.
 #[inline(never)]
 pub(crate) fn search<R: Runtime + AllocGlobal>(
     rt: &R,
     words: &ArgMatches<'_>,
-    problem: Result<Problem, Refusal>,
+    problem: Result<Problem, ProblemFault>,
+    tariffs: &[u8],
     bounds: &[Box<dyn Bound>],
     screen: bool,
 ) -> Result<u8, Refusal>
-    ensures ok { IfOk result (λ status. OfGiven problem (λ d n. says_of_problem TheSearch d n status)) }
-    ensures err { IfErr result (refuses_problem TheSearch problem) }
+    ensures ok { IfOk result (λ status. OfGiven problem (λ d n. HasAnswer d n status)) }
+    ensures err { IfErr result (IsSearchRefused problem) }
 {
     let problem = match problem {
         Ok(problem) => problem,
-        Err(refusal) => return Err(refusal),
+        Err(fault) => return Err(Refusal::of_problem(fault)),
     };
-    search_for(rt, words, &problem, bounds, screen)
+    search_for(rt, words, &problem, tariffs, bounds, screen)
 }

@@ -1,12 +1,12 @@
 //! What the words of a command spell, as `clap` has read them.
-ghost use Rattle.std.specs.Prelude.{◌≡◌, ◌↔◌, IsTrue, Some, IfOk, IfErr, codes};
-ghost use Rattle.clap.specs.Words.{first_of, found_of, one_of, rows_of};
-ghost use Rattle.pg_cli.specs.Runs.{IsOfProblem};
-ghost use Rattle.pg_cli.specs.Words.{IsNumber, IsSpelled, spelled};
+ghost use Rattle.std.specs.Prelude.{◌≡◌, ◌↔◌, IsTrue, codes};
+ghost use Rattle.clap.specs.Words.{found_of, one_of, rows_of};
+ghost use Rattle.pg_cli.specs.Asking.{IsOfWords};
+ghost use Rattle.pg_cli.specs.Words.{IsNumber, Says, spelled};
 
-use crate::refusals::{Named, Refusal};
+use crate::refusals::Named;
 use clap::ArgMatches;
-use pg_report::{Problem, RunFault};
+use pg_report::{Problem, ProblemFault};
 
 // The text of the word with this name; no text where there is none.
 pub(crate) fn text_of<'a>(words: &ArgMatches<'a>, name: &str) -> &'a str
@@ -44,22 +44,18 @@ pub(crate) fn plies_of(words: &ArgMatches<'_>) -> u8
 // The problem that the words DIAGRAM and LENGTH spell.
 //
 // # Errors
-// `Check` with `Diagram` and then `Length` where that word is refused.
-pub(crate) fn problem_in(words: &ArgMatches<'_>) -> Result<Problem, Refusal>
-    ensures spelled { IfOk result (λ problem. IsSpelled (rows_of (found_of words.now)) problem.diagram problem.length) }
-    ensures err { IfErr result (λ refusal. IsOfProblem (rows_of (found_of words.now)) refusal) }
+// `Diagram` and then `Length` where that word is refused.
+pub(crate) fn problem_in(words: &ArgMatches<'_>) -> Result<Problem, ProblemFault>
+    ensures { IsOfWords (rows_of (found_of words.now)) result }
 {
     let diagram = text_of(words, "DIAGRAM");
     let length = text_of(words, "LENGTH");
-    match Problem::read(diagram, length) {
-        Ok(problem) => Ok(problem),
-        Err(fault) => Err(Refusal::Check(RunFault::of_problem(fault))),
-    }
+    Problem::read(diagram, length)
 }
 
 // Whether the words have the name of a flag.
 fn say(words: &ArgMatches<'_>, flag: &str) -> bool
-    ensures { IsTrue result ↔ (first_of flag.now (rows_of (found_of words.now)) ≡ Some (codes "true")) }
+    ensures { IsTrue result ↔ Says flag.now (rows_of (found_of words.now)) }
 {
     match words.get_str(flag) {
         Some(text) => text == "true",
@@ -69,16 +65,28 @@ fn say(words: &ArgMatches<'_>, flag: &str) -> bool
 
 // Whether the words say `--journeys`.
 pub(crate) fn say_journeys(words: &ArgMatches<'_>) -> bool
-    ensures { IsTrue result ↔
-        (first_of (codes "journeys") (rows_of (found_of words.now)) ≡ Some (codes "true")) }
+    ensures { IsTrue result ↔ Says (codes "journeys") (rows_of (found_of words.now)) }
 {
     say(words, "journeys")
 }
 
+// Whether the words say `--tolls`.
+pub(crate) fn say_tolls(words: &ArgMatches<'_>) -> bool
+    ensures { IsTrue result ↔ Says (codes "tolls") (rows_of (found_of words.now)) }
+{
+    say(words, "tolls")
+}
+
+// Whether the words say `--no-journeys`.
+pub(crate) fn say_no_journeys(words: &ArgMatches<'_>) -> bool
+    ensures { IsTrue result ↔ Says (codes "no-journeys") (rows_of (found_of words.now)) }
+{
+    say(words, "no-journeys")
+}
+
 // Whether the words say `--replace`.
 pub(crate) fn say_replace(words: &ArgMatches<'_>) -> bool
-    ensures { IsTrue result ↔
-        (first_of (codes "replace") (rows_of (found_of words.now)) ≡ Some (codes "true")) }
+    ensures { IsTrue result ↔ Says (codes "replace") (rows_of (found_of words.now)) }
 {
     say(words, "replace")
 }

@@ -31,10 +31,11 @@ pub(crate) fn tell<R: Runtime + AllocGlobal, F: Read + Drop>(
     ensures { IfOk result (λ status. says_of_certificate command
         certificate.old.opened.diagram certificate.old.opened.plies status) }
 {
-    let Certificate { file, opened } = certificate;
+    let Certificate { carrying, opened } = certificate;
     let alloc = rt.alloc();
     let terminal = Terminal::new(screen);
-    let mut source = Passing::new(rt, &terminal, file, size_of(rt, text_of(words, "CERT")));
+    let size = size_of(rt, text_of(words, "CERT"));
+    let mut source = Passing::new(rt, &terminal, &mut carrying.file, size);
     let mut out = Gathered::new(Cleared::new(ToWrite::new(io::writer(rt)), rt, &terminal));
     let answer = match command {
         CertificateCommand::Answer => {

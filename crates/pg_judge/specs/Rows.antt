@@ -45,6 +45,8 @@ abbrev pub effort_text : Effort → List ℕ
 effort_text effort.Cooks = codes "cooks, "
 effort_text effort.Search = codes "search, "
 effort_text effort.Journeys = codes "journeys, "
+effort_text effort.Tariffs = codes "tariffs, "
+effort_text effort.Tolls = codes "tolls, "
 
 -- by what it was found
 abbrev pub means_text : Means → List ℕ

@@ -6,7 +6,7 @@ ghost use Rattle.pg_judge.specs.Ruling.{IsFindingOf};
 use crate::entry::Entry;
 use crate::given::{Given, given_to};
 use crate::leading::lead;
-use crate::limits::{FIRST, Limits, MOST, next_limit};
+use crate::limits::{Limits, MOST, next_limit};
 use crate::progress::{Effort, JudgeProgress};
 use crate::ruling::{Evidence, Finding, Known, Reason, Ruling};
 use crate::scratch::Scratch;
@@ -18,7 +18,7 @@ use pg_san::Games;
 use std::alloc::Global;
 
 // The author's games, where they solve the problem; those for which there is no room are left out.
-fn author_of(alloc: Global, entry: &Entry<'_>, given: Given) -> Games {
+pub(crate) fn author_of(alloc: Global, entry: &Entry<'_>, given: Given) -> Games {
     let mut games = Games::new(alloc);
     if given != Given::Solves {
         return games;
@@ -44,11 +44,7 @@ fn search_once<S: Scratch, P: JudgeProgress>(
 {
     let limit = limits.max_nodes;
     let bounds = question.bounds;
-    let first = Attempt {
-        effort: Effort::Search,
-        limit,
-        bounds,
-    };
+    let first = Attempt::alone(Effort::Search, limit, bounds);
     match attempt_once(alloc, question, &first, scratch, games, watch) {
         Ok(ruling) => return Ok(ruling),
         Err(stop) => {
@@ -57,11 +53,7 @@ fn search_once<S: Scratch, P: JudgeProgress>(
             }
         }
     }
-    let second = Attempt {
-        effort: Effort::Journeys,
-        limit,
-        bounds,
-    };
+    let second = Attempt::alone(Effort::Journeys, limit, bounds);
     attempt_once(alloc, question, &second, scratch, games, watch)
 }
 
@@ -88,10 +80,7 @@ fn search_on<S: Scratch, P: JudgeProgress>(
 ) -> Result<Ruling, Stop>
     ensures { IfOk result (λ r. IsFindingOf question.now.entry.now r.finding) }
 {
-    let mut now = Limits {
-        max_nodes: FIRST.min(limits.max_nodes),
-        by_journeys: limits.by_journeys,
-    };
+    let mut now = limits.first();
     for _ in 0..MOST {
         match search_once(alloc, question, now, scratch, games, watch) {
             Ok(ruling) => return Ok(ruling),
@@ -128,7 +117,7 @@ fn found_at_last(entry: &Entry<'_>, games: Games, known: Known) -> Finding
 }
 
 // The same, with how far the search for cooks came, and the search that came last.
-fn ended(entry: &Entry<'_>, games: Games, stop: Stop, foreign: Option<u8>) -> Ruling
+pub(crate) fn ended(entry: &Entry<'_>, games: Games, stop: Stop, foreign: Option<u8>) -> Ruling
     ensures { IsFindingOf entry.now result.finding }
 {
     let Stop { known, means } = stop;

@@ -17,6 +17,7 @@ mod ruling;
 mod scratch;
 mod searching;
 mod shorter;
+mod tolling;
 
 pub use entry::{Entry, read_entry};
 pub use entry_fault::EntryFault;
@@ -29,3 +30,4 @@ pub use rechecking::{recheck, time_is_over};
 pub use rows::write_row;
 pub use ruling::{Evidence, Finding, Known, Means, Reason, Ruling, is_sound};
 pub use scratch::Scratch;
+pub use tolling::{Prepared, judge_by_tolls, prepare_tolls};

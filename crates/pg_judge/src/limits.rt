@@ -1,4 +1,5 @@
 //! How far a problem is searched.
+ghost use Rattle.std.specs.Prelude.{◌≡◌, min};
 
 /// How far a problem is searched.
 #[derive(Clone, Copy, Debug, PartialEq, Eq)]
@@ -10,7 +11,21 @@ pub struct Limits {
 }
 
 // The first search visits so many nodes at most.
-pub(crate) const FIRST: u64 = 1_000_000;
+const FIRST: u64 = 1_000_000;
+
+impl Limits {
+    /// Those of the first search alone, and of that by journeys which follows it: `judge` goes as far by them as by
+    /// `self`, and ends where it would go on to more nodes.
+    pub fn first(self) -> Limits
+        ensures nodes { result.max_nodes ≡ min 1000000 self.max_nodes }
+        ensures journeys { result.by_journeys ≡ self.by_journeys }
+    {
+        Limits {
+            max_nodes: FIRST.min(self.max_nodes),
+            by_journeys: self.by_journeys,
+        }
+    }
+}
 
 // A search for cooks visits so many nodes at most.
 pub(crate) const LED: u64 = 1_000_000;

@@ -12,6 +12,10 @@ pub enum Effort {
     Search,
     /// The same with cuts by journeys too.
     Journeys,
+    /// A search for tariffs, which writes no certificate.
+    Tariffs,
+    /// A search with cuts by tariffs too, and by journeys.
+    Tolls,
 }
 
 /// Is told how far a problem is judged, and may end that. Nothing else that it does changes what is found. Whether it

@@ -9,12 +9,13 @@ use crate::scratch::Scratch;
 use crate::shorter::refuted;
 use pg_captures::Bound;
 use pg_certificate::format::MOST_NAMED;
-use pg_certificate::{FromRead, ToWrite};
+use pg_certificate::{FromRead, Sink, Source, ToWrite};
 use pg_checker::{Fault, Problem, check};
 use pg_fen::Length;
 use pg_san::Games;
-use pg_searcher::{Met, SearchFault, search_by_journeys, search_watched};
+use pg_searcher::{Met, SearchFault, search_by_tolls, search_watched};
 use pg_texts::verdict_on;
+use pg_tolls::Tariff;
 use std::alloc::Global;
 
 // An entry, and the bounds by which certificates of its problem are checked.
@@ -24,22 +25,37 @@ pub(crate) struct Question<'a> {
     pub(crate) bounds: &'a [Box<dyn Bound>],
 }
 
-// One search, how many nodes it visits at most, and the bounds by which its certificate is checked, of which it asks
-// that by journeys.
+// One search: how many nodes it visits at most; the bounds by which its certificate is checked, of which it asks that
+// by journeys; the tariffs that it asks too; and the bytes that are to stand before its certificate.
 #[derive(Clone, Copy)]
 pub(crate) struct Attempt<'a> {
     pub(crate) effort: Effort,
     pub(crate) limit: u64,
     pub(crate) bounds: &'a [Box<dyn Bound>],
+    pub(crate) tariffs: &'a [Tariff],
+    pub(crate) lead: &'a [u8],
 }
 
-// What a search came to: the games that it found, or why it has none; how many nodes it visited, as far as it told;
-// and the plies of the tree at work.
+impl<'a> Attempt<'a> {
+    // One without tariffs, which writes a certificate alone.
+    pub(crate) fn alone(effort: Effort, limit: u64, bounds: &'a [Box<dyn Bound>]) -> Attempt<'a> {
+        Attempt {
+            effort,
+            limit,
+            bounds,
+            tariffs: &[],
+            lead: &[],
+        }
+    }
+}
+
+// What a search came to: what it found, or why it has nothing; how many nodes it visited, as far as it told; and the
+// plies of the tree at work.
 #[derive(Drop)]
-pub(crate) struct Searched {
-    found: Result<Games, SearchFault>,
-    nodes: u64,
-    tree: u8,
+pub(crate) struct Searched<T> {
+    pub(crate) found: Result<T, SearchFault>,
+    pub(crate) nodes: u64,
+    pub(crate) tree: u8,
 }
 
 // What a search came to that did not settle the problem, and which search that was.
@@ -47,6 +63,39 @@ pub(crate) struct Searched {
 pub(crate) struct Stop {
     pub(crate) known: Known,
     pub(crate) means: Means,
+}
+
+// Writes what is to stand before the certificate, searches, and writes the certificate. With no tariffs a search by
+// them is one by journeys.
+fn search_into<S: Scratch, P: JudgeProgress>(
+    alloc: Global,
+    problem: &Problem,
+    attempt: &Attempt<'_>,
+    scratch: &mut S,
+    met: &mut Met<'_, P>,
+) -> Result<Games, SearchFault> {
+    let Attempt {
+        effort,
+        limit,
+        bounds,
+        tariffs,
+        lead,
+    } = *attempt;
+    let mut sink = ToWrite::new(scratch);
+    if sink.push(lead).is_err() {
+        return Err(SearchFault::Write);
+    }
+    let (diagram, length) = (&problem.diagram, problem.length);
+    match effort {
+        Effort::Search | Effort::Cooks => {
+            search_watched(alloc, diagram, length, limit, &mut sink, met)
+        }
+        Effort::Journeys | Effort::Tariffs | Effort::Tolls => {
+            search_by_tolls(
+                alloc, diagram, length, limit, bounds, tariffs, &mut sink, met,
+            )
+        }
+    }
 }
 
 // Empties the scratch, searches, writes the certificate there, and adds the games that are met to those that are known.
@@ -57,12 +106,7 @@ pub(crate) fn search_for<S: Scratch, P: JudgeProgress>(
     scratch: &mut S,
     games: &mut Games,
     watch: &mut P,
-) -> Searched {
-    let Attempt {
-        effort,
-        limit,
-        bounds,
-    } = *attempt;
+) -> Searched<Games> {
     if scratch.clear().is_err() {
         return Searched {
             found: Err(SearchFault::Write),
@@ -70,18 +114,10 @@ pub(crate) fn search_for<S: Scratch, P: JudgeProgress>(
             tree: 0,
         };
     }
-    watch.begins(effort, limit);
+    let limit = attempt.limit;
+    watch.begins(attempt.effort, limit);
     let mut met = Met::new(watch, games, limit);
-    let mut sink = ToWrite::new(scratch);
-    let (diagram, length) = (&problem.diagram, problem.length);
-    let found = match effort {
-        Effort::Journeys => {
-            search_by_journeys(alloc, diagram, length, limit, bounds, &mut sink, &mut met)
-        }
-        Effort::Search | Effort::Cooks => {
-            search_watched(alloc, diagram, length, limit, &mut sink, &mut met)
-        }
-    };
+    let found = search_into(alloc, problem, attempt, scratch, &mut met);
     Searched {
         found,
         nodes: limit.saturating_sub(met.left),
@@ -98,11 +134,24 @@ fn reason_of_check(fault: &Fault) -> Reason {
     }
 }
 
-// Checks the certificate that was written, with the games that were found. A search writes at most one record for each
-// node, so the check needs no limit of its own.
+// Whether a source goes on with these bytes, which are passed then.
+fn goes_on_with<R: Source>(bytes: &[u8], source: &mut R) -> bool {
+    for byte in bytes {
+        let mut next = [0u8];
+        match source.pull(&mut next) {
+            Ok(1) if next[0] == *byte => {}
+            _ => return false,
+        }
+    }
+    true
+}
+
+// Checks the certificate that was written behind such bytes, with the games that were found. A search writes at most
+// one record for each node, so the check needs no limit of its own.
 fn confirmed<S: Scratch>(
     alloc: Global,
     question: &Question<'_>,
+    lead: &[u8],
     games: Games,
     scratch: &mut S,
 ) -> Result<Finding, Reason>
@@ -113,6 +162,9 @@ fn confirmed<S: Scratch>(
     }
     let Question { entry, bounds } = *question;
     let mut source = FromRead::new(scratch);
+    if !goes_on_with(lead, &mut source) {
+        return Err(Reason::Scratch);
+    }
     match check(
         alloc,
         &entry.problem.diagram,
@@ -169,7 +221,7 @@ fn settled<S: Scratch, P: JudgeProgress>(
     ensures { IfOk result (λ f. IsFindingOf question.now.entry.now f) }
 {
     match found {
-        Ok(games) => confirmed(alloc, question, games, scratch),
+        Ok(games) => confirmed(alloc, question, attempt.lead, games, scratch),
         Err(SearchFault::Shorter(plies)) => {
             refuted(alloc, question.entry, plies, attempt, scratch, watch)
         }
@@ -183,6 +235,17 @@ fn below(tree: u8) -> Option<Length> {
         return None;
     }
     Length::from_plies(tree)
+}
+
+// Where a search settled nothing: why, how many games are known, by what, and how far it came.
+pub(crate) fn stopped(reason: Reason, games: &Games, means: Means, tree: u8) -> Stop {
+    let known = Known {
+        games: games.len(),
+        below: below(tree),
+        foreign: None,
+        reason,
+    };
+    Stop { known, means }
 }
 
 // Searches once, and checks what was written; the games that are met are added to those that are known.
@@ -206,14 +269,6 @@ pub(crate) fn attempt_once<S: Scratch, P: JudgeProgress>(
     let means = Means::Search(attempt.effort, nodes);
     match settled(alloc, question, attempt, found, scratch, watch) {
         Ok(finding) => Ok(Ruling { finding, means }),
-        Err(reason) => {
-            let known = Known {
-                games: games.len(),
-                below: below(tree),
-                foreign: None,
-                reason,
-            };
-            Err(Stop { known, means })
-        }
+        Err(reason) => Err(stopped(reason, games, means, tree)),
     }
 }

@@ -33,35 +33,46 @@ fn first_of(diagram: &Diagram, length: Length, games: &Games) -> Option<Game>
     }
 }
 
-// A game of so many plies that ends on the diagram of a problem, where they are fewer than it states: a search has met
-// one, and is asked again for those of this length.
-fn shorter<S: Scratch, P: JudgeProgress>(
-    alloc: Global,
-    problem: &Problem,
-    plies: u8,
-    attempt: &Attempt<'_>,
-    scratch: &mut S,
-    watch: &mut P,
-) -> Option<Game>
+// The first of games of some length, where it ends on the diagram of a problem that states a greater one.
+fn shorter(problem: &Problem, length: Length, games: &Games) -> Option<Game>
     ensures { IfSome result (λ game. (length_of game.items < problem.now.length)
         × IsSolution problem.now.diagram (length_of game.items) game.items) }
 {
-    let Some(length) = Length::from_plies(plies) else {
-        return None;
-    };
-    if plies >= problem.length.plies() {
+    if length.plies() >= problem.length.plies() {
         return None;
     }
-    let asked = Problem {
-        diagram: problem.diagram,
-        length,
-    };
-    let mut games = Games::new(alloc);
-    search_for(alloc, &asked, attempt, scratch, &mut games, watch);
-    first_of(&asked.diagram, length, &games)
+    first_of(&problem.diagram, length, games)
 }
 
-// That the problem of an entry is not sound, by such a game.
+// What a search is asked again that has met a game of so many plies on its way to a problem's diagram.
+pub(crate) fn shortened(problem: &Problem, plies: u8) -> Option<Problem> {
+    match Length::from_plies(plies) {
+        Some(length) => Some(Problem {
+            diagram: problem.diagram,
+            length,
+        }),
+        None => None,
+    }
+}
+
+// That the problem of an entry is not sound, by the first of games of such a length.
+//
+// # Errors
+// `Nodes` where there is none.
+pub(crate) fn refuted_by(
+    entry: &Entry<'_>,
+    length: Length,
+    games: &Games,
+) -> Result<Finding, Reason>
+    ensures { IfOk result (λ f. IsFindingOf entry.now f) }
+{
+    match shorter(&entry.problem, length, games) {
+        Some(game) => Ok(Finding::NotSound(Evidence::Shorter(game))),
+        None => Err(Reason::Nodes),
+    }
+}
+
+// That the problem of an entry is not sound, by a game of so many plies: a search has met one, and is asked again.
 //
 // # Errors
 // `Nodes` where none is found again.
@@ -75,8 +86,10 @@ pub(crate) fn refuted<S: Scratch, P: JudgeProgress>(
 ) -> Result<Finding, Reason>
     ensures { IfOk result (λ f. IsFindingOf entry.now f) }
 {
-    match shorter(alloc, &entry.problem, plies, attempt, scratch, watch) {
-        Some(game) => Ok(Finding::NotSound(Evidence::Shorter(game))),
-        None => Err(Reason::Nodes),
-    }
+    let Some(asked) = shortened(&entry.problem, plies) else {
+        return Err(Reason::Nodes);
+    };
+    let mut games = Games::new(alloc);
+    search_for(alloc, &asked, attempt, scratch, &mut games, watch);
+    refuted_by(entry, asked.length, &games)
 }

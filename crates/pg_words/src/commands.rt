@@ -88,7 +88,8 @@ const SEARCH_EXAMPLE: &str =
 said yes. CERT is written, or replaced, only then. The games that it met are
 solutions whatever ended it; `--games` keeps them as a list. Where it gave up
 and met none, FILE stays as it is. Problems of more than ten moves want
-`--journeys`; then whoever checks CERT says it too.
+`--journeys`. `--tolls` reaches further: a first search finds tariffs, a second
+one writes CERT by them. Whoever checks CERT against games says the same word.
 
 Example:
   pg search rnbqkbnr/pppp1ppp/8/4p3/4P3/8/PPPP1PPP/RNBQKBNR 1.0 e4e5.pgc";
@@ -328,6 +329,27 @@ const JOURNEYS_JUDGED: Word = Word {
     help: "Cuts by journeys too, where a search gives up",
 };
 
+// Tariffs, where a certificate is written.
+const TOLLS: Word = Word {
+    name: "tolls",
+    kind: Kind::Flag,
+    help: "Cuts by journeys and by tolls, whose tariffs go into CERT",
+};
+
+// No journeys, where tariffs are.
+const NO_JOURNEYS: Word = Word {
+    name: "no-journeys",
+    kind: Kind::Flag,
+    help: "With --tolls: no journeys; more nodes, often in less time",
+};
+
+// Tariffs, where a certificate is read for a problem.
+const TOLLS_TAKEN: Word = Word {
+    name: "tolls",
+    kind: Kind::Flag,
+    help: "Takes cuts by journeys and by the tariffs of CERT too",
+};
+
 // The file of `pg search` that the games are written to.
 const GAMES_KEPT: Word = Word {
     name: "games",
@@ -378,7 +400,15 @@ const COMMANDS: [Entry; 12] = [
         name: "check",
         about: "Checks a certificate against a list of games, and prints the report",
         below: CHECK_EXAMPLE,
-        words: &[DIAGRAM, LENGTH, CERTIFICATE, GAMES, RECORDS, JOURNEYS_TAKEN],
+        words: &[
+            DIAGRAM,
+            LENGTH,
+            CERTIFICATE,
+            GAMES,
+            RECORDS,
+            JOURNEYS_TAKEN,
+            TOLLS_TAKEN,
+        ],
     },
     Entry {
         name: "answer",
@@ -399,6 +429,8 @@ const COMMANDS: [Entry; 12] = [
             BYTES,
             GAMES_KEPT,
             JOURNEYS,
+            TOLLS,
+            NO_JOURNEYS,
         ],
     },
     Entry {

@@ -6,6 +6,7 @@ mod growing;
 mod rows;
 mod scratches;
 mod standing;
+mod tolling;
 
 use crate::shared::{five_bounds, text_of};
 use pg_certificate::ToWrite;

@@ -32,12 +32,16 @@ impl SearchProgress for Hasty {
 const SCHWEIG: &str =
     "schweig r1bqkbnr/ppp2ppp/3p4/8/8/8/PPPPPPPP/R1BQKBNR 4.0 1. Nc3 d6 2. Nd5 Nd7 3. Nxe7 Ndf6 4. Nxg8 Nxg8";
 
-// Which searches are made within limits, where each is ended at once.
-fn check_searches<R: Abort + AllocGlobal>(rt: &R, max_nodes: u64, by_journeys: bool, wanted: &str) {
-    let limits = Limits {
+// Limits of so many nodes.
+fn limits_of(max_nodes: u64, by_journeys: bool) -> Limits {
+    Limits {
         max_nodes,
         by_journeys,
-    };
+    }
+}
+
+// Which searches are made within limits, where each is ended at once.
+fn check_searches<R: Abort + AllocGlobal>(rt: &R, limits: Limits, wanted: &str) {
     let mut watch = Hasty {
         said: ArrayString::new(),
         is_told: false,
@@ -49,17 +53,29 @@ fn check_searches<R: Abort + AllocGlobal>(rt: &R, max_nodes: u64, by_journeys: b
 
 #[test]
 fn limits_grow(rt: HostRuntime) {
-    check_searches(&rt, 500, false, "Cooks 500, Search 500, ");
+    check_searches(&rt, limits_of(500, false), "Cooks 500, Search 500, ");
     check_searches(
         &rt,
-        25_000_000,
-        false,
+        limits_of(25_000_000, false),
         "Cooks 1000000, Search 1000000, Search 10000000, Search 25000000, ",
     );
     check_searches(
         &rt,
-        10_000_000,
-        true,
+        limits_of(10_000_000, true),
         "Cooks 1000000, Search 1000000, Journeys 1000000, Search 10000000, Journeys 10000000, ",
+    );
+}
+
+#[test]
+fn the_first_limits_alone(rt: HostRuntime) {
+    check_searches(
+        &rt,
+        limits_of(10_000_000, true).first(),
+        "Cooks 1000000, Search 1000000, Journeys 1000000, ",
+    );
+    check_searches(
+        &rt,
+        limits_of(500, true).first(),
+        "Cooks 500, Search 500, Journeys 500, ",
     );
 }

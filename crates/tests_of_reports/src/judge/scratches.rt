@@ -1,5 +1,6 @@
 //! Scratches that do not keep a certificate whole.
 
+use super::tolling::{Orders, row_by_tolls};
 use super::*;
 use arrayvec::ArrayString;
 use pg_certificate::Refused;
@@ -23,6 +24,8 @@ enum Room {
     Drops,
     /// It drops all, and never takes more.
     Stays,
+    /// It takes them, and gives nothing back.
+    Loses,
 }
 
 // A scratch that has room for ten bytes.
@@ -36,6 +39,9 @@ struct Small {
 
 impl Read for Small {
     fn read(&mut self, buffer: &mut [u8]) -> io::Result<usize> {
+        if self.room == Room::Loses {
+            return Ok(0);
+        }
         self.bytes.read(buffer)
     }
 }
@@ -43,7 +49,7 @@ impl Read for Small {
 impl Write for Small {
     fn write(&mut self, bytes: &[u8]) -> io::Result<usize> {
         let length = self.bytes.get_ref().len().saturating_add(bytes.len());
-        if self.is_wide || length <= 10 {
+        if self.is_wide || self.room == Room::Loses || length <= 10 {
             return self.bytes.write(bytes);
         }
         if self.room == Room::Refuses {
@@ -105,14 +111,19 @@ impl JudgeProgress for Begun {
     }
 }
 
-// The row of a problem that is judged by such a scratch, and which searches are made.
-fn check_small<R: Abort + AllocGlobal>(rt: &R, room: Room, row: &str, searches: &str) {
-    let mut scratch = Small {
+// An empty one.
+fn of_room<R: Abort + AllocGlobal>(rt: &R, room: Room) -> Small {
+    Small {
         bytes: Cursor::new(Vec::new(rt.alloc())),
         room,
         is_dropped: false,
         is_wide: false,
-    };
+    }
+}
+
+// The row of a problem that is judged by such a scratch, and which searches are made.
+fn check_small<R: Abort + AllocGlobal>(rt: &R, room: Room, row: &str, searches: &str) {
+    let mut scratch = of_room(rt, room);
     let mut watch = Begun {
         said: ArrayString::new(),
     };
@@ -140,5 +151,56 @@ fn small_scratches(rt: HostRuntime) {
         Room::Stays,
         "pawns|1.0|not settled|-|search, 22 nodes|1 game met; none below 1.0; certificate not written\n",
         "Search 1000, ",
+    );
+}
+
+// The same of one that is judged by tolls, where bytes stand before the certificate.
+fn check_led<R: Abort + AllocGlobal>(rt: &R, room: Room, lead: &[u8], row: &str, searches: &str) {
+    let mut scratch = of_room(rt, room);
+    let mut watch = Begun {
+        said: ArrayString::new(),
+    };
+    let orders = Orders {
+        lead,
+        first: 100,
+        second: 1000,
+    };
+    let told = row_by_tolls(rt, PAWNS, orders, &mut scratch, &mut watch);
+    assert_eq!(rt; told.as_str(), row);
+    assert_eq!(rt; watch.said.as_str(), searches);
+}
+
+#[test]
+fn small_scratches_by_tolls(rt: HostRuntime) {
+    check_led(
+        &rt,
+        Room::Refuses,
+        b"in front",
+        "pawns|1.0|not settled|-|tolls, 22 nodes|1 game met; none below 1.0; no cook with at most 0 foreign moves; \
+certificate limit reached\n",
+        "Tariffs 100, Tolls 1000, ",
+    );
+    check_led(
+        &rt,
+        Room::Refuses,
+        b"far in front",
+        "pawns|1.0|not settled|-|tolls, 0 nodes|1 game met; no cook with at most 0 foreign moves; \
+certificate limit reached\n",
+        "Tariffs 100, Tolls 1000, ",
+    );
+    check_led(
+        &rt,
+        Room::Drops,
+        b"in front",
+        "pawns|1.0|sound|-|tolls, 22 nodes|1. e4 e5\n",
+        "Tariffs 100, Tolls 1000, Tolls 1000, ",
+    );
+    check_led(
+        &rt,
+        Room::Loses,
+        b"in front",
+        "pawns|1.0|not settled|-|tolls, 22 nodes|1 game met; none below 1.0; no cook with at most 0 foreign moves; \
+certificate not written\n",
+        "Tariffs 100, Tolls 1000, ",
     );
 }

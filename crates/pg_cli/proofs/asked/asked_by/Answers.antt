@@ -1,9 +1,9 @@
+use Rattle.std.proofs.Common.{inl, subst, sym}
 use Rattle.clap.specs.Words.{found_of, rows_of}
-use Rattle.pg_cli.proofs.EndLemmas.{is_of_words}
+use Rattle.pg_cli.specs.Ending.{refuses}
+use Rattle.pg_cli.specs.declared.commands.Command.{Command}
 use Rattle.pg_cli.proofs.asked.asked_by.Goals as goal
 
-pub returns-in-OfProblem : goal.returns-in-OfProblem
-returns-in-OfProblem g c = record {
-  ok = (c.in-OfProblem.is, is_of_words (rows_of (found_of c.args.words.now)) c.problem_in.result c.problem_in.ensures.spelled c.problem_in.ensures.err);
-  err = tt;
-}
+pub returns-in-Err-clause-err : goal.returns-in-Err-clause-err
+returns-in-Err-clause-err g c =
+    subst (λ (x : Command). refuses x (rows_of (found_of c.args.words.now)) c.in-Err.refusal) (sym c.in-Check.is) (inl c.in-Err.ensures)

@@ -1,23 +1,17 @@
 use Rattle.std.proofs.Common.{inl, inr}
 use Rattle.pg_cli.specs.Runs.{IsUnchecked}
-use Rattle.pg_cli.proofs.EndLemmas.{given_so, no_list, of_input}
-use Rattle.pg_cli.proofs.StatusLemmas.{is_of_file, tells, tells_why}
+use Rattle.pg_cli.proofs.EndLemmas.{given_so, no_list}
+use Rattle.pg_cli.proofs.StatusLemmas.{tells, tells_why}
 use Rattle.pg_cli.proofs.checking.check.Goals as goal
 
 pub returns-in-Err : goal.returns-in-Err
-returns-in-Err g c = record { ok = tt; err = inl (of_input c.of_file.result (is_of_file c.in-Err.fault _ c.of_file.result c.of_file.ensures)) }
-
-pub returns-in-Err-read_listed : goal.returns-in-Err-read_listed
-returns-in-Err-read_listed g c = record {
-  ok = tt;
-  err = no_list c.args.problem IsUnchecked c.in-Err-read_listed.refusal c.in-Err-read_listed.ensures.err (λ d n h. inl h);
-}
+returns-in-Err g c = record { ok = tt; err = no_list c.args.problem IsUnchecked c.in-Err.refusal c.in-Err.ensures.err (λ d n h. inl h) }
 
 pub returns : goal.returns
 returns g c =
-    let l = c.in-Ok-read_listed.listed in
-    let is = c.in-Ok-read_listed.ensures.problem in
-    let text = c.in-Ok-read_listed.ensures.games in
+    let l = c.in-Ok.listed in
+    let is = c.in-Ok.ensures.problem in
+    let text = c.in-Ok.ensures.games in
     record {
       ok = tells c.check_on-answer.result _ _ c.check_on-answer.ensures.headline
           (λ s h. given_so c.args.problem l.problem _ is (text.0, l.games, text.1, h));

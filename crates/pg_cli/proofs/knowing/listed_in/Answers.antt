@@ -6,7 +6,7 @@ pub returns-in-Err-clause-err : goal.returns-in-Err-clause-err
 returns-in-Err-clause-err c = inl (refl, c.in-Err.ensures.cases.0)
 
 pub returns-in-Err-problem-clause-err : goal.returns-in-Err-problem-clause-err
-returns-in-Err-problem-clause-err c = inr (inl c.in-Err-problem.is)
+returns-in-Err-problem-clause-err c = inr (inl (c.in-Err-problem.fault, c.in-Err-problem.is, c.of_problem.ensures))
 
 pub returns-in-Ok-read_games-clause-games : goal.returns-in-Ok-read_games-clause-games
 returns-in-Ok-read_games-clause-games c =

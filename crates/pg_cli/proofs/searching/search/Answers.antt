@@ -12,4 +12,4 @@ returns g c =
     }
 
 pub returns-in-Err : goal.returns-in-Err
-returns-in-Err g c = record { ok = tt; err = inr (inl c.in-Err.is) }
+returns-in-Err g c = record { ok = tt; err = inr (inl (c.in-Err.fault, c.in-Err.is, c.of_problem.ensures)) }
