@@ -154,8 +154,6 @@ refuse 40 1 '' cooks "$orders" 1.5 order
 refuse 40 2 'pg: no game to go by' cooks "$open" 1.0 empty
 refuse 40 0 '' search "$open" 1.0 good.pgc
 refuse 40 0 '' search "$open" 1.0 new.pgc --journeys
-refuse 40 0 '' search "$open" 1.0 new.pgc --tolls
-refuse 40 0 '' search "$open" 1.0 new.pgc --tolls --no-journeys --games games
 refuse 40 1 'pg: node limit reached' search "$open" 1.0 new.pgc --nodes 3
 refuse 40 1 'pg: node limit reached' search "$open" 1.0 new.pgc --nodes 0 --tolls --games new.games
 refuse 40 0 '' search "$open" 1.0 good.pgc --games games
