@@ -5,6 +5,8 @@
 #[cfg(test)]
 mod by_nodes;
 #[cfg(test)]
+mod drawn;
+#[cfg(test)]
 mod expected;
 #[cfg(test)]
 mod led;

@@ -1,0 +1,119 @@
+//! What a drawn search holds.
+
+use crate::answer::DrawnLimits;
+use crate::barren::Barren;
+use crate::child::Child;
+use crate::judge::Judge;
+use pg_captures::Bound;
+use pg_fen::Diagram;
+use pg_position::Move;
+use pg_san::Games;
+use pg_searcher::Game;
+use rand_core::SeedableRng;
+use rand_xoshiro::SplitMix64;
+use std::alloc::{AllocError, Global};
+
+// What is searched for: games of so many plies to a diagram. Of the bounds the first by journeys is asked of nodes.
+#[derive(Drop)]
+pub(crate) struct Question<'a> {
+    pub(crate) diagram: &'a Diagram,
+    pub(crate) bounds: &'a [Box<dyn Bound>],
+    pub(crate) plies: u8,
+}
+
+// An open node: the move that led to it, its key, where those of its children begin that are still to be gone into, and
+// whether a game below it was met.
+#[derive(Clone, Copy)]
+pub(crate) struct Open {
+    pub(crate) m: Option<Move>,
+    pub(crate) key: u64,
+    pub(crate) first: usize,
+    pub(crate) fertile: bool,
+}
+
+// Why a start ends before all games are gone through: two games were met, or a shorter one; no more nodes may be visited
+// in it; who watches ended the search; or memory was refused.
+#[derive(Clone, Copy, Debug, PartialEq, Eq)]
+pub(crate) enum Halt {
+    Met,
+    Nodes,
+    Stopped,
+    Memory,
+}
+
+// An answer of what takes memory.
+pub(crate) fn remembered<T>(answer: Result<T, AllocError>) -> Result<T, Halt> {
+    match answer {
+        Ok(value) => Ok(value),
+        Err(_) => Err(Halt::Memory),
+    }
+}
+
+// What judges nodes, the barren ones, and what is drawn. All three stay from one start to the next: what is barren is so
+// in whatever order nodes are visited.
+#[derive(Drop)]
+pub(crate) struct Sieve {
+    pub(crate) judge: Judge,
+    pub(crate) barren: Barren,
+    pub(crate) chance: SplitMix64,
+}
+
+// The games that were met, a shorter one, and the keys of the nodes along the first one, the initial array first.
+#[derive(Drop)]
+pub(crate) struct Findings {
+    pub(crate) games: Games,
+    pub(crate) shorter: Option<Game>,
+    pub(crate) keys: Vec<u64>,
+}
+
+// The open nodes, the topmost last, their children, those of the topmost last, how many nodes may still be visited in
+// this start, and what stays.
+#[derive(Drop)]
+pub(crate) struct Machine {
+    pub(crate) open: Vec<Open>,
+    pub(crate) children: Vec<Child>,
+    pub(crate) nodes_left: u64,
+    pub(crate) sieve: Sieve,
+    pub(crate) findings: Findings,
+}
+
+impl Machine {
+    // Nothing is open, known or met.
+    pub(crate) fn new(
+        alloc: Global,
+        diagram: &Diagram,
+        limits: &DrawnLimits,
+    ) -> Result<Machine, AllocError> {
+        Ok(Machine {
+            open: Vec::new(alloc),
+            children: Vec::new(alloc),
+            nodes_left: 0,
+            sieve: Sieve {
+                judge: Judge::new(alloc, diagram)?,
+                barren: Barren::new(alloc)?,
+                chance: SplitMix64::seed_from_u64(limits.seed),
+            },
+            findings: Findings {
+                games: Games::new(alloc),
+                shorter: None,
+                keys: Vec::new(alloc),
+            },
+        })
+    }
+
+    // Nothing is open, and so many nodes may be visited.
+    pub(crate) fn restart(&mut self, nodes: u64) {
+        self.open.clear();
+        self.children.clear();
+        self.nodes_left = nodes;
+    }
+
+    // Counts a node, and answers whether it may be visited.
+    pub(crate) fn visit(&mut self) -> bool {
+        if self.nodes_left == 0 {
+            return false;
+        }
+        self.nodes_left -= 1;
+        true
+    }
+}
