@@ -4,8 +4,8 @@
 #![tactic(auto)]
 
 mod answer;
-mod barren;
 mod child;
+mod closed;
 mod judge;
 mod known;
 mod last;

@@ -1,8 +1,8 @@
 //! What a drawn search holds.
 
 use crate::answer::DrawnLimits;
-use crate::barren::Barren;
 use crate::child::Child;
+use crate::closed::Closed;
 use crate::judge::Judge;
 use pg_captures::Bound;
 use pg_fen::Diagram;
@@ -21,14 +21,12 @@ pub(crate) struct Question<'a> {
     pub(crate) plies: u8,
 }
 
-// An open node: the move that led to it, its key, where those of its children begin that are still to be gone into, and
-// whether a game below it was met.
+// An open node: the move that led to it, its key, and where those of its children begin that are still to be gone into.
 #[derive(Clone, Copy)]
 pub(crate) struct Open {
     pub(crate) m: Option<Move>,
     pub(crate) key: u64,
     pub(crate) first: usize,
-    pub(crate) fertile: bool,
 }
 
 // Why a start ends before all games are gone through: two games were met, or a shorter one; no more nodes may be visited
@@ -49,12 +47,12 @@ pub(crate) fn remembered<T>(answer: Result<T, AllocError>) -> Result<T, Halt> {
     }
 }
 
-// What judges nodes, the barren ones, and what is drawn. All three stay from one start to the next: what is barren is so
-// in whatever order nodes are visited.
+// What judges nodes, those that have closed, and what is drawn. All three stay from one start to the next: what lies
+// below a node does not hang on the order in which nodes are visited.
 #[derive(Drop)]
 pub(crate) struct Sieve {
     pub(crate) judge: Judge,
-    pub(crate) barren: Barren,
+    pub(crate) closed: Closed,
     pub(crate) chance: SplitMix64,
 }
 
@@ -90,7 +88,7 @@ impl Machine {
             nodes_left: 0,
             sieve: Sieve {
                 judge: Judge::new(alloc, diagram)?,
-                barren: Barren::new(alloc)?,
+                closed: Closed::new(alloc)?,
                 chance: SplitMix64::seed_from_u64(limits.seed),
             },
             findings: Findings {

@@ -17,7 +17,6 @@ fn put_open(open: &mut Vec<Open>, node: &Child, first: usize) -> Result<(), Halt
         m: node.m,
         key: node.key,
         first,
-        fertile: false,
     };
     match open.push(opened) {
         Ok(()) => Ok(()),
@@ -89,15 +88,12 @@ fn end<P: SearchProgress>(
     for ending in endings(question.diagram, &node.position).as_slice() {
         let open = machine.open.as_slice();
         meet_ending(&mut machine.findings, open, node, ending, watch)?;
-        if let Some(top) = machine.open.last_mut() {
-            top.fertile = true;
-        }
     }
     Ok(())
 }
 
 // Goes into a node with so many plies left, at least two. It is on the diagram, or one ply before it, so that a game is
-// shorter than stated; or it is barren; or it opens. With two plies left it is looked at once, and closed.
+// shorter than stated; or it has closed; or journeys exclude it; or it opens. With two plies left it is looked at once, and closed.
 pub(crate) fn enter<P: SearchProgress>(
     question: &Question,
     machine: &mut Machine,
@@ -114,12 +110,12 @@ pub(crate) fn enter<P: SearchProgress>(
     if left <= 2 {
         return end(question, machine, node, watch);
     }
-    if machine.sieve.barren.has(node.key) {
+    if machine.sieve.closed.has(node.key) {
         return Ok(());
     }
     let (bounds, diagram) = (question.bounds, question.diagram);
     if first_excludes(bounds, Journeys::CODE, diagram, &node.position, left) == Some(true) {
-        machine.sieve.barren.put(node.key, left);
+        machine.sieve.closed.put(node.key, left);
         return Ok(());
     }
     open(question, machine, node, left - 1, watch)

@@ -38,7 +38,8 @@ fn starts<P: SearchProgress>(
         nodes: 0,
         end: Ok(DrawnEnd::Nodes),
     };
-    for further in (0..limits.starts).rev() {
+    for number in 1..=limits.starts {
+        let further = limits.starts.saturating_sub(number);
         let later = most.saturating_mul(u64::from(further));
         let answer = start(question, machine, most, later, watch);
         let visited = most.saturating_sub(machine.nodes_left);
@@ -54,15 +55,15 @@ fn starts<P: SearchProgress>(
 /// Looks for two games of a length to a diagram of which no game is known: with two the problem is not sound. A shorter
 /// game is handed out too, where one is met on the way, and ends the search as well.
 ///
-/// The tree of the stated length alone is gone into, depth first. Cheap bounds are asked of a position before it is a
-/// node: captures, promotions, pawn files and travel, by the need and by least assignments. A node is a position that
-/// they do not exclude, and that is gone into with at least two plies left. With three or more it closes at once where it
-/// is known to be barren, or where the first bound of code 5 among `bounds` excludes, if there is one. Of the positions
-/// after the moves of a node that opens that comes first for which the least assignments of both colours leave the least
-/// travel, and of those with as much one that is drawn. So a start soon comes close to the diagram, and one that went
-/// wrong at its beginning is of no use for long: therefore there are many, each with its end of nodes. Barren nodes stay
-/// known from one start to the next, by key of 64 bits, in a table of 16 MB. Once a game was met, each other way to a
-/// node of it makes another one.
+/// The tree of the stated length alone is gone into, depth first. A node is a position that is visited with at least two
+/// plies left, and that captures, promotions, pawn files and travel, the last two by least assignments too, do not
+/// exclude: these are asked before. With three or more it closes at once where a node of the same future has closed, or
+/// where the first bound of code 5 among `bounds` excludes, if there is one. Of the positions after the moves of a node
+/// that opens those come first for which the least assignments of both colours leave the least travel, and of such as
+/// leave as much one that is drawn. So a start soon comes close to the diagram, and one that went wrong at its beginning
+/// is of no use for long: therefore there are many, each with its end of nodes. Closed nodes stay known from one start
+/// to the next, by key of 64 bits, in a table of 16 MB. Once a game was met, each other way to a node of it makes another
+/// one.
 ///
 /// With one seed all runs are the same, to the node. Of fewer than two plies no diagram has two games, and none is looked
 /// for. What the search takes, some 30 MB at most, is taken from `alloc`. `watch` is told how far it is, with the nodes
@@ -88,12 +89,13 @@ pub fn search_drawn<P: SearchProgress>(
         plies: length.plies(),
     };
     let ran = starts(&question, &mut machine, &limits, watch);
+    let end = ran.end?;
     let Machine { findings, .. } = machine;
     let Findings { games, shorter, .. } = findings;
     Ok(Drawn {
         games,
         shorter,
         nodes: ran.nodes,
-        end: ran.end?,
+        end,
     })
 }

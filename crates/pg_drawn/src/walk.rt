@@ -6,17 +6,10 @@ use crate::opening::enter;
 use pg_position::Position;
 use pg_searcher::SearchProgress;
 
-// The topmost open node closes, all of whose children have. Where no game was met below it, it is barren.
+// The topmost open node closes, all of whose children have, with so many plies left.
 fn close(machine: &mut Machine, left: u8) {
-    let Some(top) = machine.open.pop() else {
-        return;
-    };
-    if !top.fertile {
-        machine.sieve.barren.put(top.key, left);
-        return;
-    }
-    if let Some(parent) = machine.open.last_mut() {
-        parent.fertile = true;
+    if let Some(top) = machine.open.pop() {
+        machine.sieve.closed.put(top.key, left);
     }
 }
 
@@ -46,8 +39,8 @@ fn root(question: &Question, machine: &mut Machine) -> Result<Option<Child>, Hal
     remembered(node_of(judge, diagram, None, &array, plies, 0))
 }
 
-// A start, from the initial array, over so many nodes at most. The number told to `watch`
-// is that of the nodes that may still be visited in this start and in so many more.
+// A start, from the initial array, over so many nodes at most. The number told to `watch` is that of the nodes that may
+// still be visited, in this start and so many later.
 pub(crate) fn start<P: SearchProgress>(
     question: &Question,
     machine: &mut Machine,

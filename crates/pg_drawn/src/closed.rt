@@ -1,5 +1,6 @@
-//! Nodes below which no game ends on the diagram, by key alone: two nodes with one key are taken for the same, and what
-//! that can cost is a game that is not met.
+//! Nodes that have closed: below them no game ends on the diagram but the first that was met, of which each node is
+//! known. They are told by key alone: two nodes with one key are taken for the same, and what that can cost is a game
+//! that is not met.
 
 use std::alloc::{AllocError, Global};
 
@@ -18,9 +19,9 @@ struct Slot {
 
 const FREE_SLOT: Slot = Slot { key: 0, left: 0 };
 
-// Barren nodes. Where there is no more room an entry takes the place of one with the fewest plies left.
+// Closed nodes. Where there is no more room an entry takes the place of one with the fewest plies left.
 #[derive(Drop)]
-pub(crate) struct Barren {
+pub(crate) struct Closed {
     slots: Vec<Slot>,
 }
 
@@ -45,10 +46,10 @@ fn place_of(slots: &Vec<Slot>, key: u64) -> usize {
     place
 }
 
-impl Barren {
+impl Closed {
     // No nodes. All memory that it takes is taken here.
-    pub(crate) fn new(alloc: Global) -> Result<Barren, AllocError> {
-        Ok(Barren {
+    pub(crate) fn new(alloc: Global) -> Result<Closed, AllocError> {
+        Ok(Closed {
             slots: vec![in alloc; FREE_SLOT; SLOTS]?,
         })
     }
