@@ -10,7 +10,7 @@ pub struct DrawnLimits {
     /// What numbers are drawn by: with one seed all runs are the same.
     pub seed: u64,
     /// So many starts are made at most.
-    pub starts: u8,
+    pub starts: u32,
     /// So many nodes are visited at most in each start.
     pub max_nodes: u64,
 }

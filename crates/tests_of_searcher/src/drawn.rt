@@ -25,7 +25,7 @@ fn by_journeys<R: Abort + AllocGlobal>(rt: &R, goal: &Goal) -> Vec<Box<dyn Bound
 fn limits_of(rt: &impl Abort, row: &str) -> DrawnLimits {
     DrawnLimits {
         seed: number(rt, field(row, 2)),
-        starts: number(rt, field(row, 3)).min(255) as u8,
+        starts: number(rt, field(row, 3)).min(1_000) as u32,
         max_nodes: number(rt, field(row, 4)),
     }
 }
