@@ -1,9 +1,6 @@
 //! Nodes that may be gone into, and which of them comes first.
 
-use crate::judge::Judge;
-use pg_fen::Diagram;
 use pg_position::{Move, Position};
-use std::alloc::AllocError;
 
 // A node that no cheap bound excludes: the move that led to it, none at the initial array; its position, its key, how
 // much travel is left, and a drawn number.
@@ -14,27 +11,6 @@ pub(crate) struct Child {
     pub(crate) key: u64,
     pub(crate) travel: u8,
     pub(crate) drawn: u64,
-}
-
-// The node of a position to which a move led, with so many plies left; none where a cheap bound excludes.
-pub(crate) fn node_of(
-    judge: &mut Judge,
-    diagram: &Diagram,
-    m: Option<Move>,
-    position: &Position,
-    left: u8,
-    drawn: u64,
-) -> Result<Option<Child>, AllocError> {
-    match judge.judged(diagram, position, left)? {
-        Some(judged) => Ok(Some(Child {
-            m,
-            position: *position,
-            key: judged.key,
-            travel: judged.travel,
-            drawn,
-        })),
-        None => Ok(None),
-    }
 }
 
 // Whether a node comes before another one: by the travel that is left, then by the number that was drawn.

@@ -1,19 +1,13 @@
 //! Whether a cheap bound excludes a node, and how much travel is left there.
 
+use crate::child::Child;
 use crate::known::{Known, Means};
 use pg_board::Color;
 use pg_captures::plies_left;
 use pg_fen::Diagram;
-use pg_position::Position;
+use pg_position::{Move, Position};
 use pg_prices::node_key;
 use std::alloc::{AllocError, Global};
-
-// A node that no cheap bound excludes: its key, and how much travel is left to both colours.
-#[derive(Clone, Copy)]
-pub(crate) struct Judged {
-    pub(crate) key: u64,
-    pub(crate) travel: u8,
-}
 
 // What judges nodes for a diagram.
 #[derive(Drop)]
@@ -45,13 +39,15 @@ impl Judge {
         }
     }
 
-    // A node with `left` plies left; none where a bound excludes it, or prices of pawn files or travel do.
-    pub(crate) fn judged(
+    // The node of a position to which a move led, with `left` plies left; none where a bound excludes it, or least
+    // assignments of pawns or of men do. No number is drawn for it yet.
+    pub(crate) fn node(
         &mut self,
         diagram: &Diagram,
+        m: Option<Move>,
         position: &Position,
         left: u8,
-    ) -> Result<Option<Judged>, AllocError> {
+    ) -> Result<Option<Child>, AllocError> {
         let white = self.means(Color::White, position, left);
         let black = self.means(Color::Black, position, left);
         if white.exclude() || black.exclude() {
@@ -64,9 +60,12 @@ impl Judge {
             return Ok(None);
         };
         let passed = position.effective_passed();
-        Ok(Some(Judged {
+        Ok(Some(Child {
+            m,
+            position: *position,
             key: node_key(white.key, black.key, position.side(), passed, left),
             travel: white.travel.saturating_add(black.travel),
+            drawn: 0,
         }))
     }
 }

@@ -6,7 +6,7 @@ use crate::closed::Closed;
 use crate::judge::Judge;
 use pg_captures::Bound;
 use pg_fen::Diagram;
-use pg_position::Move;
+use pg_position::{Move, Position};
 use pg_san::Games;
 use pg_searcher::Game;
 use rand_core::SeedableRng;
@@ -39,21 +39,12 @@ pub(crate) enum Halt {
     Memory,
 }
 
-// An answer of what takes memory.
-pub(crate) fn remembered<T>(answer: Result<T, AllocError>) -> Result<T, Halt> {
-    match answer {
-        Ok(value) => Ok(value),
+// Puts a value behind those of a list.
+pub(crate) fn push<T: Drop>(list: &mut Vec<T>, value: T) -> Result<(), Halt> {
+    match list.push(value) {
+        Ok(()) => Ok(()),
         Err(_) => Err(Halt::Memory),
     }
-}
-
-// What judges nodes, those that have closed, and what is drawn. All three stay from one start to the next: what lies
-// below a node does not hang on the order in which nodes are visited.
-#[derive(Drop)]
-pub(crate) struct Sieve {
-    pub(crate) judge: Judge,
-    pub(crate) closed: Closed,
-    pub(crate) chance: SplitMix64,
 }
 
 // The games that were met, a shorter one, and the keys of the nodes along the first one, the initial array first.
@@ -64,14 +55,17 @@ pub(crate) struct Findings {
     pub(crate) keys: Vec<u64>,
 }
 
-// The open nodes, the topmost last, their children, those of the topmost last, how many nodes may still be visited in
-// this start, and what stays.
+// The open nodes, the topmost last; their children, those of the topmost last; how many nodes may still be visited in
+// this start; and what stays from one start to the next: what judges nodes, those that have closed, since what lies below
+// a node does not hang on the order in which nodes are visited, what is drawn, and what was met.
 #[derive(Drop)]
 pub(crate) struct Machine {
     pub(crate) open: Vec<Open>,
     pub(crate) children: Vec<Child>,
     pub(crate) nodes_left: u64,
-    pub(crate) sieve: Sieve,
+    pub(crate) judge: Judge,
+    pub(crate) closed: Closed,
+    pub(crate) chance: SplitMix64,
     pub(crate) findings: Findings,
 }
 
@@ -86,17 +80,29 @@ impl Machine {
             open: Vec::new(alloc),
             children: Vec::new(alloc),
             nodes_left: 0,
-            sieve: Sieve {
-                judge: Judge::new(alloc, diagram)?,
-                closed: Closed::new(alloc)?,
-                chance: SplitMix64::seed_from_u64(limits.seed),
-            },
+            judge: Judge::new(alloc, diagram)?,
+            closed: Closed::new(alloc)?,
+            chance: SplitMix64::seed_from_u64(limits.seed),
             findings: Findings {
                 games: Games::new(alloc),
                 shorter: None,
                 keys: Vec::new(alloc),
             },
         })
+    }
+
+    // The node of a position to which a move led, as `Judge::node` says.
+    pub(crate) fn node(
+        &mut self,
+        question: &Question,
+        m: Option<Move>,
+        position: &Position,
+        left: u8,
+    ) -> Result<Option<Child>, Halt> {
+        match self.judge.node(question.diagram, m, position, left) {
+            Ok(node) => Ok(node),
+            Err(_) => Err(Halt::Memory),
+        }
     }
 
     // Nothing is open, and so many nodes may be visited.

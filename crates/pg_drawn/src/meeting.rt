@@ -2,11 +2,10 @@
 
 use crate::child::Child;
 use crate::last::Ending;
-use crate::machine::{Findings, Halt, Machine, Open, remembered};
+use crate::machine::{Findings, Halt, Machine, Open, push};
 use pg_position::Move;
 use pg_san::AddFault;
 use pg_searcher::{Game, SearchProgress};
-use std::alloc::AllocError;
 
 // Adds a move to a game, where there is one. A game has room for the 128 plies that it may have.
 fn put_move(game: &mut Game, m: &Option<Move>) {
@@ -41,12 +40,12 @@ impl Machine {
 }
 
 // Keeps the keys of the nodes along a game, which are those of the open nodes and of one after the topmost.
-fn keep_keys(keys: &mut Vec<u64>, open: &[Open], child: &Child) -> Result<(), AllocError> {
+fn keep_keys(keys: &mut Vec<u64>, open: &[Open], child: &Child) -> Result<(), Halt> {
     keys.clear();
     for node in open {
-        keys.push(node.key)?;
+        push(keys, node.key)?;
     }
-    Ok(keys.push(child.key)?)
+    push(keys, child.key)
 }
 
 // A game is met: it is kept and told, if it was not met before. With two of them the search ends.
@@ -76,7 +75,7 @@ pub(crate) fn meet_ending<P: SearchProgress>(
     watch: &mut P,
 ) -> Result<(), Halt> {
     if findings.games.len() == 0 {
-        remembered(keep_keys(&mut findings.keys, open, child))?;
+        keep_keys(&mut findings.keys, open, child)?;
     }
     let mut game = game_along(open, child, &Some(ending.before));
     put_move(&mut game, &Some(ending.last));

@@ -1,8 +1,8 @@
 //! A node is gone into: it closes at once, or it opens and its children are judged.
 
-use crate::child::{Child, node_of};
+use crate::child::Child;
 use crate::last::{endings, last_move};
-use crate::machine::{Halt, Machine, Open, Question, remembered};
+use crate::machine::{Halt, Machine, Open, Question, push};
 use crate::meeting::{meet_ending, meet_first};
 use pg_captures::first_excludes;
 use pg_journeys::Journeys;
@@ -10,19 +10,6 @@ use pg_moves::LegalMoves;
 use pg_position::{Move, Position};
 use pg_searcher::SearchProgress;
 use rand_core::Rng;
-
-// A node is open from now on.
-fn put_open(open: &mut Vec<Open>, node: &Child, first: usize) -> Result<(), Halt> {
-    let opened = Open {
-        m: node.m,
-        key: node.key,
-        first,
-    };
-    match open.push(opened) {
-        Ok(()) => Ok(()),
-        Err(_) => Err(Halt::Memory),
-    }
-}
 
 // The node after a move of the topmost open one, with so many plies left, is judged, and kept where no cheap bound
 // excludes it.
@@ -37,22 +24,17 @@ fn put_child<P: SearchProgress>(
     let Ok(next) = position.play(*m) else {
         return Ok(());
     };
-    let drawn = machine.sieve.chance.next_u64();
-    let judge = &mut machine.sieve.judge;
-    let judged = node_of(judge, question.diagram, Some(*m), &next, left, drawn);
-    let Some(child) = remembered(judged)? else {
+    let Some(mut child) = machine.node(question, Some(*m), &next, left)? else {
         return Ok(());
     };
+    child.drawn = machine.chance.next_u64();
     meet_first(
         &mut machine.findings,
         machine.open.as_slice(),
         &child,
         watch,
     )?;
-    match machine.children.push(child) {
-        Ok(()) => Ok(()),
-        Err(_) => Err(Halt::Memory),
-    }
+    push(&mut machine.children, child)
 }
 
 // A node opens, with so many plies left after a move of it: its children are judged.
@@ -63,8 +45,12 @@ fn open<P: SearchProgress>(
     left: u8,
     watch: &mut P,
 ) -> Result<(), Halt> {
-    let first = machine.children.len();
-    put_open(&mut machine.open, node, first)?;
+    let opened = Open {
+        m: node.m,
+        key: node.key,
+        first: machine.children.len(),
+    };
+    push(&mut machine.open, opened)?;
     let mut moves = LegalMoves::new(&node.position);
     for _ in 0..u16::MAX {
         let Some(m) = moves.next() else {
@@ -110,12 +96,12 @@ pub(crate) fn enter<P: SearchProgress>(
     if left <= 2 {
         return end(question, machine, node, watch);
     }
-    if machine.sieve.closed.has(node.key) {
+    if machine.closed.has(node.key) {
         return Ok(());
     }
     let (bounds, diagram) = (question.bounds, question.diagram);
     if first_excludes(bounds, Journeys::CODE, diagram, &node.position, left) == Some(true) {
-        machine.sieve.closed.put(node.key, left);
+        machine.closed.put(node.key, left);
         return Ok(());
     }
     open(question, machine, node, left - 1, watch)
