@@ -29,8 +29,8 @@ pub(crate) struct Open {
     pub(crate) first: usize,
 }
 
-// Why a start ends before all games are gone through: two games were met, or a shorter one; no more nodes may be visited
-// in it; who watches ended the search; or memory was refused.
+// Why a start ends before all games are gone through: two games were met, or a shorter one; no more nodes may be
+// visited in it; who watches ended the search; or memory was refused.
 #[derive(Clone, Copy, Debug, PartialEq, Eq)]
 pub(crate) enum Halt {
     Met,
@@ -55,9 +55,9 @@ pub(crate) struct Findings {
     pub(crate) keys: Vec<u64>,
 }
 
-// The open nodes, the topmost last; their children, those of the topmost last; how many nodes may still be visited in
-// this start; and what stays from one start to the next: what judges nodes, those that have closed, since what lies below
-// a node does not hang on the order in which nodes are visited, what is drawn, and what was met.
+// The open nodes, the topmost last; their children, those of the topmost last; and how many nodes may still be visited
+// in this start. The rest stays from one start to the next: what judges nodes, those that have closed, since what lies
+// below a node does not hang on the order in which nodes are visited, what is drawn, and what was met.
 #[derive(Drop)]
 pub(crate) struct Machine {
     pub(crate) open: Vec<Open>,

@@ -79,7 +79,8 @@ fn end<P: SearchProgress>(
 }
 
 // Goes into a node with so many plies left, at least two. It is on the diagram, or one ply before it, so that a game is
-// shorter than stated; or it has closed; or journeys exclude it; or it opens. With two plies left it is looked at once, and closed.
+// shorter than stated; or it has closed; or journeys exclude it; or it opens. With two plies left it is looked at once,
+// and closed.
 pub(crate) fn enter<P: SearchProgress>(
     question: &Question,
     machine: &mut Machine,

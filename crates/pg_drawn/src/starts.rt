@@ -55,20 +55,20 @@ fn starts<P: SearchProgress>(
 /// Looks for two games of a length to a diagram of which no game is known: with two the problem is not sound. A shorter
 /// game is handed out too, where one is met on the way, and ends the search as well.
 ///
-/// The tree of the stated length alone is gone into, depth first. A node is a position that is visited with at least two
-/// plies left, and that captures, promotions, pawn files and travel, the last two by least assignments too, do not
+/// The tree of the stated length alone is gone into, depth first. A node is a position that is visited with at least
+/// two plies left, and that captures, promotions, pawn files and travel, the last two by least assignments too, do not
 /// exclude: these are asked before. With three or more it closes at once where a node of the same future has closed, or
 /// where the first bound of code 5 among `bounds` excludes, if there is one. Of the positions after the moves of a node
 /// that opens those come first for which the least assignments of both colours leave the least travel, and of such as
-/// leave as much one that is drawn. So a start soon comes close to the diagram, and one that went wrong at its beginning
-/// is of no use for long: therefore there are many, each with its end of nodes. Closed nodes stay known from one start
-/// to the next, by key of 64 bits, in a table of 16 MB. Once a game was met, each other way to a node of it makes another
-/// one.
+/// leave as much one that is drawn. So a start soon comes close to the diagram, and one that went wrong at its
+/// beginning is of no use for long: therefore there are many, each with its end of nodes. Closed nodes stay known from
+/// one start to the next, by key of 64 bits, in a table of 16 MB. Once a game was met, each other way to a node of it
+/// makes another one.
 ///
-/// With one seed all runs are the same, to the node. Of fewer than two plies no diagram has two games, and none is looked
-/// for. What the search takes, some 30 MB at most, is taken from `alloc`. `watch` is told how far it is, with the nodes
-/// that are left in all starts, and each game of the stated length that is met, once. The answer is trusted for nothing:
-/// a game is to be tested.
+/// With one seed all runs are the same, to the node. Of fewer than two plies no diagram has two games, and none is
+/// looked for. What the search takes, some 30 MB at most, is taken from `alloc`. `watch` is told how far it is, with
+/// the nodes that are left in all starts, and each game of the stated length that is met, once. The answer is trusted
+/// for nothing: a game is to be tested.
 ///
 /// # Errors
 /// `Memory` where memory is refused.

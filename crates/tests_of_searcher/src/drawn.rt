@@ -83,8 +83,9 @@ fn drawn_by<R: Abort + AllocGlobal>(rt: &R, row: &str) -> (Said, u64) {
     }
 }
 
-// Problems that are not sound: mates in two moves, a capture en passant, a game and one that gives back a tempo, knights
-// that might stay at home, so that a shorter game is met on the way; and problems of 12 and 15 moves by chance.
+// Problems that are not sound: mates in two moves, a capture en passant, a game and one that gives back a tempo,
+// knights that might stay at home, so that a shorter game is met on the way, or a ply too many; and problems of 12 and
+// 15 moves by chance.
 const TWICE: &str = "fools-mate | 2.0 | 1 | 9 | 1000 => Met 2
 rnbqkbnr/1pp1pppp/p2P4/8/8/8/PPPP1PPP/RNBQKBNR | 2.5 | 1 | 9 | 1000 => Met 2
 rnbqkbnr/p1pppppp/8/8/8/3QP3/PPP2PPP/RNB1K1NR | 3.5 | 1 | 9 | 1000 => Met 2
