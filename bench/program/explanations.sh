@@ -6,9 +6,7 @@
 
 # Explains the moves $2 by the certificate $3 of the example $1, whose last line is to say that it is right.
 explain() {
-  local words=()
-  [ ! -f "$top/examples/$1/words" ] || read -ra words <"$top/examples/$1/words"
-  "$pg" why "$3" "$2" "${words[@]}" >"$work/said" 2>&1 &&
+  "$pg" why "$3" "$2" >"$work/said" 2>&1 &&
     [ "$(tail -n 1 "$work/said")" = 'the certificate is right' ] && return
   echo "$1, $2:" >&2
   sed 's/^/    /' "$work/said" >&2

@@ -89,6 +89,20 @@ done <<END
 2|error: unexpected argument '--no-journeys' found|check $array 0 list list --no-journeys
 2|error: unexpected argument '--tolls' found|answer list --tolls
 2|error: unexpected argument '--tolls' found|judge list --tolls
+2|$lacks <DIAGRAM>|solve
+2|error: unexpected argument 'more' found|solve $array 0 more
+2|error: unexpected argument '--tolls' found|solve $array 0 --tolls
+2|error: unexpected value 'yes' for '--all' found|solve $array 0 --all=yes
+2|error: a value is required for '--game <MOVES>'|solve $array 0 --game
+2|error: unexpected argument '-1' found|solve $array 0 --nodes -1
+2|pg: bad rank|solve 8/8
+2|pg: length above 64.0|solve $array 64.5
+2|pg: line 1, ply 1: not a move|solve $array 0 --game x
+1|pg: game 1 does not have the stated length|solve $array 0 --game e4
+1|pg: game 1 does not end on the diagram|solve $array 0.5 --game e4
+4|pg: cannot open none|solve $array 0 --games none
+4|pg: cannot open none/none|solve $array 0 --keep none/none
+4|pg: cannot open -|solve $array 0 --keep -
 2|error: unexpected argument '-1' found|cooks $array 0 list --nodes -1
 2|$lacks <PROBLEMS>|judge
 2|error: unexpected argument 'more' found|judge list more
@@ -123,7 +137,7 @@ done <<END
 4|pg: cannot open none/|search $array 0 none/ --tolls
 4|pg: cannot open none|check 8/8 64.5 none none --tolls
 END
-for command in '' check answer cooks judge games why page; do
+for command in '' solve check answer cooks judge games why page; do
   expect 0 '' "\"\$pg\" $command --help | grep -c '^Usage: '" 1
 done
 expect 0 '' '"$pg" --version | grep -c "^pg [0-9.]*$"' 1
@@ -149,6 +163,8 @@ OLD upgrade '' ../none
 NEW upgrade old.pgc ''
 NEW upgrade none ''
 PROBLEMS judge ''
+--games solve $queen 2.0 --games ''
+--keep solve $queen 2.0 --keep ''
 PROBLEMS judge '' --certificates ../none
 --certificates judge games --certificates '' --nodes 0
 --certificates judge none --certificates= --nodes 0
@@ -251,7 +267,7 @@ done <<END
 2|array $array 0 -\narray $array 0 -\n|line 2: this name stands above|$array_row
 END
 printf 'orders %s 1.5\n' $orders >"$work/list"
-expect 1 '' '"$pg" judge ../list --nodes 0' "$(row orders 1.5 'not settled' - 'search, 0 nodes' '0 games met; limit reached')"
+expect 1 '' '"$pg" judge ../list --nodes 0' "$(row orders 1.5 'not settled' - 'journeys, 0 nodes' '0 games met; limit reached')"
 expect 4 'pg: cannot open none' '"$pg" judge none' ''
 expect 4 'pg: cannot open .' '"$pg" judge .' ''
 expect 4 'pg: read fault' '"$pg" judge - <&-' ''
@@ -271,12 +287,32 @@ head -c -1 "$work/proofs/orders.pgc" >"$work/cut"
 for wrong_one in "$work/cut" empty report; do
   cp "$wrong_one" "$work/proofs/orders.pgc"
   expect 1 '' '"$pg" judge ../list --certificates ../proofs --nodes 0' \
-    "$(row orders 1.5 'not settled' - 'search, 0 nodes, old certificate refused' '0 games met; limit reached')"
+    "$(row orders 1.5 'not settled' - 'journeys, 0 nodes, old certificate refused' '0 games met; limit reached')"
   cmp -s "$wrong_one" "$work/proofs/orders.pgc" || { echo "a certificate that was not replaced has changed" >&2; wrong=1; }
   expect 1 '' '"$pg" judge ../list --certificates ../proofs' "$replaced_row"
   expect 1 '' '"$pg" judge ../list --certificates ../proofs' "$standing_row"
 done
 [ "$(ls -A "$work/proofs")" = orders.pgc ] || { echo "drafts are left" >&2; wrong=1; }
+
+# One problem, told as a report: the games that settle it, two that do not, another one, a shorter one, or what is known.
+report_of() { printf 'diagram %s\nlength %s\n' "$1" "$2"; printf '%s\n' "${@:3}"; }
+for words in '$queen 2.0' '$queen' '$queen 2.0 --game "e4 d5 exd5 Qxd5"' '$queen --game "e4 d5 exd5 Qxd5"' \
+  '$queen 2.0 --games games' '$queen --games - <games' '$queen 2.0 --all --minutes 1 --journeys'; do
+  expect 0 '' "\"\$pg\" solve $words | cmp - report" ''
+done
+expect 0 '' '"$pg" solve $queen 2.0 --keep ../solved.pgc >/dev/null; "$pg" answer ../solved.pgc | cmp - report' ''
+expect 1 '' '"$pg" solve $orders 1.5' "$(report_of $orders 1.5 'games 2' '1. d3 e6 2. e3' '1. e3 e6 2. d3' 'not sound')"
+expect 1 '' '"$pg" solve $orders 1.5 --all' "$(report_of $orders 1.5 'games 2' '1. d3 e6 2. e3' '1. e3 e6 2. d3' cooked)"
+expect 1 '' '"$pg" solve $orders 1.5 --game "e3 e6 d3"' \
+  "$(report_of $orders 1.5 'games 1' '1. e3 e6 2. d3' 'another game' '1. d3 e6 2. e3' 'not sound')"
+expect 1 '' '"$pg" solve $queen 3.0' \
+  "$(report_of $queen 3.0 'games 0' 'a game of 4 plies' '1. e4 d5 2. exd5 Qxd5' 'not sound')"
+expect 1 '' '"$pg" solve $open 0.5' "$(report_of $open 0.5 'games 0' 'no game')"
+expect 1 '' '"$pg" solve $orders 1.5 --nodes 0 --keep ../unsolved.pgc' \
+  "$(report_of $orders 1.5 'games 0' 'not settled: 0 games met; limit reached')"
+[ ! -e "$work/unsolved.pgc" ] || { echo "a problem that is not settled leaves a certificate" >&2; wrong=1; }
+expect 4 'pg: write fault' '"$pg" solve $queen 2.0 >/dev/full' ''
+expect 2 'pg: bad number of minutes' '"$pg" solve $queen 2.0 --minutes=x' ''
 
 # What lists show by themselves, and what is found beside them.
 while IFS='|' read -r status words list said printed; do
@@ -504,7 +540,8 @@ expect 1 'pg: not a certificate of version 1' '"$pg" upgrade old.pgc ../two >/de
 { header "$array" 4; ones 2000; } >"$work/old.pgc"
 expect 4 'pg: write fault' 'trap "" XFSZ; ulimit -f 1; "$pg" upgrade ../old.pgc new.pgc'
 
-# Cuts by journeys are written, and taken, where the words say so; without such cuts the word changes nothing.
+# Cuts by journeys are written, and taken by `check`, where the words say so, and always by the others; without such cuts the word
+# changes nothing.
 echo '1. Nc3 d6 2. Nd5 Nd7 3. Nxe7 Ndf6 4. Nxg8 Nxg8' >"$work/knights"
 expect 0 '' '"$pg" search $schweig 4.0 ../journeys.pgc --journeys | tail -n 1' sound
 expect 0 '' '"$pg" check $schweig 4.0 ../journeys.pgc ../knights --journeys | tail -n 1' sound
@@ -512,9 +549,9 @@ expect 0 '' '"$pg" answer ../journeys.pgc --journeys | tail -n 1' sound
 expect 0 '' '"$pg" page ../journeys.pgc --journeys | tail -n 1' '</html>'
 expect 0 '' '"$pg" why ../journeys.pgc - --journeys | tail -n 1' 'the certificate is right'
 expect 1 'pg: unknown bound 5' '"$pg" check $schweig 4.0 ../journeys.pgc ../knights' ''
-expect 1 'pg: unknown bound 5' '"$pg" answer ../journeys.pgc' ''
-expect 1 'pg: unknown bound 5' '"$pg" page ../journeys.pgc' ''
-expect 1 'pg: unknown bound 5' '"$pg" why ../journeys.pgc - >/dev/null'
+expect 0 '' '"$pg" answer ../journeys.pgc | cmp - <("$pg" answer ../journeys.pgc --journeys)' ''
+expect 0 '' '"$pg" page ../journeys.pgc | cmp - <("$pg" page ../journeys.pgc --journeys)' ''
+expect 0 '' '"$pg" why ../journeys.pgc - | cmp - <("$pg" why ../journeys.pgc - --journeys)' ''
 expect 0 '' '"$pg" check $queen 2.0 good.pgc games --journeys | cmp - report'
 expect 0 '' '"$pg" answer good.pgc --journeys | cmp - report'
 
@@ -626,7 +663,7 @@ expect 0 '' '"$pg" judge ../paid.list --certificates ../proofs/tolls --nodes 0 |
 for spoiled in 'head -c 50 ../tolls.pgc' 'printf "PGT1\0"; tail -c +6 ../tolls.pgc' 'cat ../tolls.pgc; printf x'; do
   (eval "$spoiled") >"$work/proofs/tolls/schweig.pgc"
   expect 1 '' '"$pg" judge ../list --certificates ../proofs/tolls --nodes 0' \
-    "$(row schweig 4.0 'not settled' - 'search, 0 nodes, old certificate refused' '0 games met; limit reached')"
+    "$(row schweig 4.0 'not settled' - 'journeys, 0 nodes, old certificate refused' '0 games met; limit reached')"
 done
 
 # With the words behind $1 `pg` ends with the status $1 and prints something; and with the least stack that the README
@@ -655,7 +692,7 @@ printf '%s\n' "twelve ${twelve[*]}" "fifteen ${fifteen[*]} $fifteen_game" "four 
 mkdir ../proofs/large
 cp "$twelve_proof" ../proofs/large/twelve.pgc
 cp "$fifteen_proof" ../proofs/large/fifteen.pgc
-"$pg" judge ../large --nodes 100000 --journeys --certificates ../proofs/large >/dev/null
+"$pg" judge ../large --nodes 100000 --certificates ../proofs/large >/dev/null
 small 1 search "$four" 4.0 ../again --games ../met
 expect 0 '' 'cmp ../again ../four.pgc && cmp ../met ../four.games' ''
 small 0 search "$schweig" 4.0 ../again --journeys
@@ -685,14 +722,17 @@ small 1 games "$four" 4.0 ../four.games
 small 1 cooks "$four" 4.0 ../four.games --nodes 100000
 small 0 cooks "${fifteen[@]}" "$top/examples/two-knights/games" --nodes 100000
 small 1 judge ../large --nodes 100000
-small 1 judge ../large --nodes 100000 --journeys
-small 1 judge ../large --nodes 100000 --journeys --certificates ../proofs/large
+small 0 solve "$schweig" 4.0
+small 0 solve "${fifteen[@]}" --nodes 100000 --keep ../again
+small 1 solve "$four" 4.0 --games ../four.games
+small 1 solve "$unreachable"
+small 1 judge ../large --nodes 100000 --certificates ../proofs/large
 small 0 upgrade "$top/examples/schweig/certificate.pgc" ../again
 small 0 count "$position" 4
 small 0 moves 'R6R/3Q4/1Q4Q1/4Q3/2Q4Q/Q4Q2/pp1Q4/kBNN1KB1 w - - 0 1'
 small 0 show "${fifteen[@]}"
 small 0 --help
-expect 0 '' 'ulimit -s 400; "$pg" judge ../large --nodes 100000 --journeys --certificates ../proofs/new | cut -f 3' \
+expect 0 '' 'ulimit -s 400; "$pg" judge ../large --nodes 100000 --certificates ../proofs/new | cut -f 3' \
   $'sound\nsound\nnot sound\nno game\ncooked'
 expect 1 'pg: unlisted game: 1. a3 a6 2. b3 b6 3. c3 c6 4. d3 d6' \
   'ulimit -s 400; sed 1d ../four.games | "$pg" check $four 4.0 ../four.pgc' ''
@@ -755,17 +795,16 @@ if command -v script >/dev/null; then
   says "'$pg' check $queen 2.0 ../packed games" 'pg: not a certificate' 'pg: it looks packed by gzip; unpack it, or let `pg check` read it from a pipe'
   says "'$pg' answer ../packed" 'pg: not a certificate' 'pg: it looks packed by gzip; unpack it, or let `pg check` read it from a pipe'
   says "'$pg' answer nothing" 'pg: cannot open nothing' 'pg: No such file or directory (os error 2)'
-  says "'$pg' answer ../journeys.pgc" 'pg: unknown bound 5' 'pg: bound 5 is that by journeys: say --journeys'
   says "'$pg' check $schweig 4.0 ../journeys.pgc ../knights" 'pg: unknown bound 5' 'pg: bound 5 is that by journeys: say --journeys'
   says "'$pg' check $schweig 4.0 ../tolls.pgc ../knights" 'pg: not a certificate' 'pg: tariffs stand before it: say --tolls'
   for word in journeys tolls; do
-    on_terminal "'$pg' search $queen 2.0 new.pgc --nodes 3 --$word" | grep -x 'pg: .* reaches further' >"$work/said-of-$word"
+    on_terminal "'$pg' search $queen 2.0 new.pgc --nodes 3 --$word" | grep -x 'pg: .* reaches further: .*' >"$work/said-of-$word"
   done
-  [ "$(cat "$work/said-of-journeys")" = 'pg: --tolls reaches further' ] && [ ! -s "$work/said-of-tolls" ] ||
-    { echo "not told which word reaches further" >&2; wrong=1; }
+  [ "$(cat "$work/said-of-journeys")" = "pg: this reaches further: pg solve $queen 2.0 --minutes 10" ] && [ ! -s "$work/said-of-tolls" ] ||
+    { echo "not told which command reaches further" >&2; wrong=1; }
   says "'$pg' search $queen 3.0 new.pgc" 'pg: a game of 4 plies reaches the diagram' 'pg: try the length 2.0'
   says "'$pg' search $cooked 3.5 new.pgc --nodes 8312" 'pg: node limit reached' 'pg: 8307 nodes, tree 3.5 of 3.5' 'pg: 2 games known: not sound' \
-    'pg: --journeys reaches further' 'pg: try `pg cooks` with a game, `pg show DIAGRAM LENGTH` for a forecast, or more --nodes'
+    "pg: this reaches further: pg solve $cooked 3.5 --minutes 10" 'pg: try `pg cooks` with a game, `pg show DIAGRAM LENGTH` for a forecast, or more --nodes'
 
   # A page of a long certificate that is refused shows how far its check is, takes that away, and prints nothing.
   { cat long.pgc; ones 24000000; } >../many.pgc

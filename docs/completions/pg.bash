@@ -2,13 +2,14 @@
 _pg() {
   local cur=${COMP_WORDS[COMP_CWORD]} before=${COMP_WORDS[COMP_CWORD - 1]} place=1 at
   local commands options valued=" " file_options=" " file_places=" "
-  commands="show moves count games cooks check answer search judge why page upgrade help"
+  commands="solve show moves count games cooks check answer search judge why page upgrade help"
   COMPREPLY=()
   if [ "$COMP_CWORD" = 1 ]; then
     mapfile -t COMPREPLY < <(compgen -W "$commands --help -h --version -V" -- "$cur")
     return
   fi
   case ${COMP_WORDS[1]} in
+    solve) options="--game --games --keep --all --nodes --minutes --bytes --journeys --help -h" valued=" --game --games --keep --nodes --minutes --bytes " file_options=" --games --keep " ;;
     show) options="--help -h" ;;
     moves) options="--help -h" ;;
     count) options="--help -h" ;;

@@ -20,7 +20,7 @@ one_longer records x n p q =
 abbrev pub IsWithin : ℕ → Option (List ℕ) → Option (List ℕ) → Type 0
 IsWithin n before left = IfSome before (λ bytes. IfSome left (λ rest. length bytes ≤ length rest + (4096 + n)))
 
--- the same after so many bytes more
+-- the same with m for n, where the bytes bs were taken before that
 pub within_more : (before now left : Option (List ℕ)) (bs : List ℕ) (n m : ℕ) → Consumes before now bs → length bs + n ≤ m → IsWithin n now left → IsWithin m before left
 within_more None now left bs n m taken fits within = tt
 within_more (Some bytes) None left bs n m taken fits within = absurd taken

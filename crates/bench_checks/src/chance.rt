@@ -56,7 +56,7 @@ fn drawn_move(alloc: Global, position: &Position, state: u64) -> Result<Option<M
     Ok(moves.get(pick as usize).copied())
 }
 
-// Whether no game to a position is shorter by more than so many plies, where so many have led to it.
+// Whether no game to a position is shorter than the `plies` that have led to it by more than `most`.
 fn is_tight(position: &Position, plies: u8, most: u8) -> bool {
     match plies.saturating_sub(most).checked_sub(1) {
         Some(fewer) => journeys_hold(&Diagram::of(position), &Position::array(), fewer),
@@ -73,7 +73,7 @@ struct Drawn {
     men: SquareSet,
 }
 
-// Which moves are taken: those that leave at most so many plies to spare, if any number is told; and where a man is to
+// Which moves are taken: those that leave at most `slack` plies to spare, if that is told; and where a man is to
 // go on, those of men who have moved before.
 #[derive(Clone, Copy)]
 struct Rule {
@@ -167,7 +167,7 @@ fn end_of(alloc: Global, state: u64, wanted: Wanted) -> Result<Drawn, AllocError
     Ok(last)
 }
 
-// Prints so many problems, a diagram and a length each.
+// Prints `count` problems, a diagram and a length each.
 pub(crate) fn print_problems(
     rt: &HostRuntime,
     seed: u64,

@@ -34,7 +34,7 @@ fn certificate(alloc: Global, diagram: &Diagram, length: Length) -> Result<Vec<u
     Ok(bytes)
 }
 
-// Checks all games of 2.0 by a certificate, so many times.
+// Checks all games of 2.0 by a certificate, `rounds` times.
 fn checked(
     alloc: Global,
     diagram: &Diagram,
@@ -65,7 +65,7 @@ fn checked(
     Ok(records)
 }
 
-// Checks all games of 2.0 by expansions, so many times.
+// Checks all games of 2.0 by expansions, `rounds` times.
 fn expanded(alloc: Global, placement: &str, list: &str, rounds: u32) -> anyhow::Result<u64> {
     let diagram = read_diagram(placement)?;
     let length = Length::read("2.0").map_err(|_| Fault::Text)?;
@@ -73,7 +73,7 @@ fn expanded(alloc: Global, placement: &str, list: &str, rounds: u32) -> anyhow::
     checked(alloc, &diagram, length, list, bytes.as_slice(), rounds)
 }
 
-// Checks all games of 2.0 to the diagram of 64 men by expansions and references, so many times.
+// Checks all games of 2.0 to the diagram of 64 men by expansions and references, `rounds` times.
 pub(crate) fn references(alloc: Global, rounds: u32) -> anyhow::Result<u64> {
     let diagram = read_diagram(FULL)?;
     let length = Length::read("2.0").map_err(|_| Fault::Text)?;

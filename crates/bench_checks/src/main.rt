@@ -1,9 +1,9 @@
-//! Measures what stands on the rules. `bench_checks CASE NUMBER` prints what so many rounds of a case counted, which is
+//! Measures what stands on the rules. `bench_checks CASE NUMBER` prints what NUMBER rounds of a case counted, which is
 //! the same at each run; the time or the instructions are taken from outside. The cases are those of `measured`.
 //! `bench_checks cooks GAME NODES [FOREIGN]` looks for another game to the diagram on which a game ends, and prints how
 //! long it is, how many foreign moves it has at most, and how many nodes were visited.
-//! `bench_checks chance SEED MOVES COUNT [SLACK]` prints so many problems, a diagram and a length each, on which games
-//! of so many moves end that are drawn by that seed, mostly of men who have moved before, as in problems that somebody
+//! `bench_checks chance SEED MOVES COUNT [SLACK]` prints COUNT problems, a diagram and a length each, on which games of
+//! MOVES moves end that are drawn by that seed, mostly of men who have moved before, as in problems that somebody
 //! composed. With SLACK the bound by journeys excludes after each ply all games that are shorter by more plies.
 //! `bench_checks search DIAGRAM LENGTH NODES` searches for the games of a problem and prints their number and the
 //! certificate's bytes and records; `journeys` behind it cuts by journeys too, and `check` has the certificate checked
@@ -27,7 +27,7 @@ use crate::searching::Asked;
 use std::alloc::Global;
 use std::env;
 
-// What so many rounds of a case count.
+// What `number` rounds of a case count.
 fn measured(alloc: Global, case: &str, number: u32) -> anyhow::Result<u64> {
     let rounds = u64::from(number);
     Ok(match case {

@@ -26,8 +26,8 @@ fn fill(costs: &mut Costs, state: u64) -> u64 {
     state
 }
 
-// The sum of the least assignments of so many random matrices of 16 targets and 16 sources, with costs as men have them or
-// none; where nothing is assigned, what making them costs.
+// The sum of the least assignments of `count` random matrices of 16 targets and 16 sources, with costs as men have them
+// or none; where nothing is assigned, what making them costs.
 pub(crate) fn assignments(count: u64, is_assigned: bool) -> u64 {
     let mut costs = [[200u8; MOST_MEN]; MOST_MEN];
     let mut state = 0x9e37_79b9_7f4a_7c15;
@@ -66,8 +66,8 @@ fn sum_of(rows: &Rows, diagram: &Diagram, position: &Position, part: Part) -> u6
         .saturating_add(u64::from(pawns))
 }
 
-// The sum of what both colours need, for a diagram of 24 random plies, from so many positions of random games of 16 plies
-// each.
+// The sum of what both colours need, for a diagram of 24 random plies, from `count` positions of random games of 16
+// plies each.
 pub(crate) fn needs(alloc: Global, count: u64, part: Part) -> Result<u64, AllocError> {
     let mut state = 0x9e37_79b9_7f4a_7c15;
     let mut goal = Position::array();

@@ -31,14 +31,14 @@ fn count_expansions<S: Source>(source: &mut S, count: u64) -> Result<u64, ReadFa
     Ok(expansions)
 }
 
-// The number of expansions among so many records of one byte.
+// The number of expansions among `count` records of one byte.
 pub(crate) fn read(alloc: Global, count: u32) -> Result<u64, AllocError> {
     let bytes = vec![in alloc; 1u8; count as usize]?;
     let mut source = FromRead::new(bytes.as_slice());
     Ok(count_expansions(&mut source, count as u64).unwrap_or(0))
 }
 
-// How many records of prices the memory has, of so many at most.
+// How many records of prices the memory has, among its first `most` records.
 fn count_priced(bytes: &[u8], most: u64) -> u64 {
     let mut source = FromRead::new(bytes);
     let mut reader = RecordReader::new();
@@ -55,7 +55,7 @@ fn count_priced(bytes: &[u8], most: u64) -> u64 {
     counted
 }
 
-// So many times the same hundred records of prices, three lists of 14 sources and 14 targets each.
+// Reads the same hundred records of prices `rounds` times, three lists of 14 sources and 14 targets each.
 pub(crate) fn read_priced(alloc: Global, rounds: u32) -> Result<u64, AllocError> {
     let mut bytes = Vec::new(alloc);
     bytes.extend_from_slice(b"PGC2")?;

@@ -10,7 +10,7 @@ use std::alloc::Global;
 // How many plies are counted.
 const PLIES: u8 = 4;
 
-// So many positions, each of a game of its own of 8 to 80 plies.
+// `size` positions, each of a game of its own of 8 to 80 plies.
 pub(crate) fn run(
     alloc: Global,
     dice: &mut Dice,

@@ -45,7 +45,7 @@ pub(crate) enum Manner {
     Composed,
 }
 
-// Whether the colour that has just moved, after so many plies, needed all of its moves to come from the array to
+// Whether the colour that has just moved, after `plies` plies, needed all of its moves to come from the array to
 // where it stands.
 fn is_thrifty(next: &Position, plies: u8) -> bool {
     Travel.excludes(
@@ -106,7 +106,7 @@ fn drawn(
     Some(found)
 }
 
-// Plays so many plies, or fewer where no move is legal.
+// Plays `plies` plies, or fewer where no move is legal.
 pub(crate) fn play(
     alloc: Global,
     dice: &mut Dice,

@@ -68,7 +68,7 @@ fn along(alloc: Global, dice: &mut Dice, game: &Game, digest: &mut Digest) -> an
     Ok(game.before.len() as u64)
 }
 
-// Games until so many positions were asked.
+// Games until `size` positions were asked.
 pub(crate) fn run(
     alloc: Global,
     dice: &mut Dice,

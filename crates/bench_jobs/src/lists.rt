@@ -14,7 +14,7 @@ use pg_report::{Diagram, Length, Problem, ToWrite};
 use pg_san::read_games;
 use std::alloc::Global;
 
-// So many pawns of each colour advance, in so many orders.
+// How many pawns of each colour advance, and in how many orders.
 const PAWNS: usize = 5;
 
 const ORDERS: usize = 120;
@@ -116,7 +116,7 @@ struct List {
     plies: u8,
 }
 
-// A list of so many games at most, each so many orders after the one before.
+// A list of `count` games at most, each `stride` orders after the one before.
 fn list_of(alloc: Global, dice: &mut Dice, count: usize, stride: usize) -> anyhow::Result<List> {
     let white = advances(alloc, dice, 2, [3, 4])?;
     let black = advances(alloc, dice, 7, [6, 5])?;
@@ -143,7 +143,7 @@ fn list_of(alloc: Global, dice: &mut Dice, count: usize, stride: usize) -> anyho
     Ok(list)
 }
 
-// Lists until so many games were read.
+// Lists until `size` games were read.
 pub(crate) fn run(
     alloc: Global,
     dice: &mut Dice,

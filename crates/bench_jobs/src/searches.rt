@@ -92,7 +92,7 @@ fn problem(alloc: Global, game: &Game, digest: &mut Digest) -> anyhow::Result<u6
     Ok(visited)
 }
 
-// Problems until so many nodes were visited.
+// Problems until `size` nodes were visited.
 pub(crate) fn run(
     alloc: Global,
     dice: &mut Dice,

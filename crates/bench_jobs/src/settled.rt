@@ -18,7 +18,7 @@ pub(crate) enum Came {
     Other(u64),
 }
 
-// A search with so many nodes at most. What it has written is taken in, however it ended.
+// A search with `nodes` nodes at most. What it has written is taken in, however it ended.
 pub(crate) fn settle(
     alloc: Global,
     diagram: &Diagram,

@@ -17,7 +17,7 @@ fn start(fen: Option<&str>) -> Result<Position, Fault> {
     }
 }
 
-// The number of games of so many plies.
+// The number of games of `plies` plies.
 pub(crate) fn games(alloc: Global, plies: u64, fen: Option<&str>) -> Result<u64, Fault> {
     let Ok(plies) = u8::try_from(plies) else {
         return Err(Fault::Usage);

@@ -1,7 +1,7 @@
 //! Measures the rules of the game: `bench_rules CASE NUMBER` prints what it counted, which is the same at each run; the time
-//! or the instructions are taken from outside. `attacked` and `play` ask so many times for the attacked squares and the moves
-//! of a position in the middle of a game; `count` counts the games of so many plies from the initial array, or from the position of
-//! a FEN behind it.
+//! or the instructions are taken from outside. `attacked` and `play` ask NUMBER times for the attacked squares and the
+//! moves of a position in the middle of a game; `count` counts the games of NUMBER plies from the initial array, or
+//! from the position of a FEN behind it.
 #![tactic(auto)]
 
 mod attacks;

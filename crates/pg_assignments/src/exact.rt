@@ -38,7 +38,7 @@ fn via(costs: &Costs, free: [bool; 16], row: usize, column: usize) -> Option<u16
     }
 }
 
-// The least total of so many rows at free columns.
+// The least total of the first `rows` rows at free columns.
 #[cycle(exact)]
 fn search(costs: &Costs, free: [bool; 16], rows: usize) -> Option<u16>
     requires { rows ≤ 16 }
@@ -55,7 +55,7 @@ fn search(costs: &Costs, free: [bool; 16], rows: usize) -> Option<u16>
     least
 }
 
-// The first so many columns are free.
+// The first `columns` columns are free.
 fn first(columns: usize) -> [bool; 16]
     requires { columns ≤ 16 }
     ensures is { (j : ℕ) → IsFree result j ↔ (j < columns) }

@@ -33,7 +33,7 @@ fn above_start(prices: Row) -> [u8; 16] {
     above
 }
 
-/// Prices that are meant to show the least total of assignments that give each of the first so many rows a column of
+/// Prices that are meant to show the least total of assignments that give each of the first `rows` rows a column of
 /// its own, where a cost above `most`, a number up to 254, counts as `most`: a row's price is at most a column's and
 /// the cost of the pair, no row's price is above `most`, and the rows' prices less the columns' are the total.
 ///

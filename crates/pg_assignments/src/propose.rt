@@ -240,7 +240,7 @@ fn with_cost(row: [u8; 16], cost: u8) -> u64 {
         .to_bitmask()
 }
 
-// Prices each of the first so many rows by the least that it pays, and gives it a column of that price that no row
+// Prices each of the first `rows` rows by the least that it pays, and gives it a column of that price that no row
 // holds, if there is one. The rows that are left are answered, as bits.
 #[inline(always)]
 fn begin(costs: &Costs, rows: usize, least: [u8; 16], partners: &mut Proposal) -> u64 {
@@ -268,7 +268,7 @@ fn begin(costs: &Costs, rows: usize, least: [u8; 16], partners: &mut Proposal) -
     left
 }
 
-/// A proposal for the first so many rows of these costs, by numbers that no cost of a column is below: the least costs
+/// A proposal for the first `rows` rows of these costs, by numbers that no cost of a column is below: the least costs
 /// of the columns, which leave fewer rows to be settled, or zeros, with which all columns have the same first price.
 #[inline(never)]
 pub(crate) fn propose(costs: &Costs, rows: usize, least: [u8; 16]) -> Proposal {

@@ -36,7 +36,7 @@ pub(crate) fn fits(costs: &Costs, rows: &Row, columns: &Row) -> bool
     true
 }
 
-// The sum of the first so many numbers.
+// The sum of the first `count` numbers.
 pub(crate) fn sum(row: &Row, count: usize) -> u32
     requires { count ≤ 16 }
     ensures value { result ≡ total (nth row.now) count }

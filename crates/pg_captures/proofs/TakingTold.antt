@@ -37,7 +37,7 @@ pawn_told b there c side x n s r eb ec ex set is low =
     (λ t. d.0 (sym e ∙ t), λ h. e ∙ d.1 h)
 
 -- ---- the captures owed
--- fewer than none, or more than so many plies
+-- fewer than none, or more than `plies`
 abbrev pub Off : ℕ → ℕ → ℕ → Type 0
 Off here there plies = (here < there) ⊎ (plies + there < here)
 

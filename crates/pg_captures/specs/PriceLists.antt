@@ -8,7 +8,7 @@ use Rattle.pg_board.specs.Tally.{tally_below}
 pub use Rattle.pg_price_lists.specs.PriceLists.{PriceList, list_of}
 use Rattle.pg_captures.specs.Counting.{of_color, men}
 
--- which of these men the one on a square is, from 0: so many of them stand on the squares before
+-- which of these men the one on a square is, from 0: how many of them stand on the squares before
 abbrev pub number_among : Color → (ℕ → Kind → Bool) → Placement → ℕ → ℕ
 number_among c f b s = tally_below (of_color c f) b s
 

@@ -9,13 +9,13 @@ ghost use Rattle.pg_position.specs.Game.{Barren};
 use pg_fen::Diagram;
 use pg_position::{Move, Position};
 
-/// A test that excludes games to a diagram. Its law: what it excludes is barren, which means that no
-/// list of so many legal moves from the position ends on the diagram.
+/// A test that excludes games to a diagram. Its law: what it excludes is barren, which means that no list of legal
+/// moves from the position, as many as plies are left, ends on the diagram.
 pub trait Bound: Drop {
     /// The code by which a certificate names the bound.
     ghost code_of: { Self → ℕ };
 
-    /// Whether the bound excludes: a placement to come to, from a position, in so many plies. Its
+    /// Whether the bound excludes: a placement to come to, from a position, in a number of plies. Its
     /// answers depend on nothing else.
     ghost excluded: { Self → Placement → State → ℕ → Bool };
 

@@ -40,8 +40,8 @@ pub fn owed(color: Color, diagram: &Diagram, position: &Position) -> i16
     here - there
 }
 
-// Whether a colour owes fewer captures than none, or more than so many plies, where the other colour has
-// so many men here and there.
+// Whether a colour owes fewer captures than none, or more than `plies`, where the other colour has `here` men in the
+// position and `there` in the diagram.
 #[inline(always)]
 fn is_owed_wrongly(here: u8, there: u8, plies: u8) -> bool
     requires { plies + there < 256 }

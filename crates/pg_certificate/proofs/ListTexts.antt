@@ -24,7 +24,7 @@ first_bytes n l fits = bytes_before (take n l) (drop n l) (subst AreBytes (sym (
 later_bytes : (n : ℕ) (l : List ℕ) → AreBytes l → AreBytes (drop n l)
 later_bytes n l fits = bytes_after (take n l) (drop n l) (subst AreBytes (sym (take-append-drop n l)) fits)
 
--- so many lists take this many bytes of a text that has more
+-- a text of w + 1 lists of n bytes begins with one, and w are left behind it
 one_more : (w n len : ℕ) → len ≡ suc w * n → (n ≤ len) × (len - n ≡ w * n)
 one_more w n len e = let more : suc w * n ≡ w * n + n = suc-mul w n in (omega (arith, e, more), omega (arith, e, more))
 

@@ -1,4 +1,4 @@
--- The pieces of a spelling: a byte, a byte of a range, so many bytes.
+-- The pieces of a spelling: a byte, a byte of a range, n bytes.
 use Rattle.std.proofs.Common.{◌≡◌, ◌≢◌, ℕ, zero, suc, ◌-◌, ◌<◌, ◌≤◌, inl, inr, true, false, ltb, List, [], ◌∷◌, ◌++◌, length, take, drop, replicate, Ok, Err, refl, sym, ap, subst, ◌∙◌, arith}
 use Rattle.std.proofs.lemmas.Bool.{cases_lt, lt-ltb, le-ltb}
 use Rattle.std.proofs.lemmas.List.{length-append, length-take-le, length-replicate, take_at, drop_at, take-append-drop}
@@ -96,7 +96,7 @@ from_reads least most p = record {
   meets = from_meets least most p;
 }
 
--- ---- so many bytes
+-- ---- n bytes
 
 abbrev pub Exactly : ℕ → List ℕ → List ℕ → Type 0
 Exactly n l text = (length l ≡ n) × AreBytes l × (text ≡ l)

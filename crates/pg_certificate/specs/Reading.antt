@@ -35,7 +35,7 @@ abbrev pub byte_at : List ℕ → Result (ℕ × List ℕ) ReadFault
 byte_at [] = Err Truncated
 byte_at (b ∷ rest) = Ok (b, rest)
 
--- so many bytes
+-- n bytes
 abbrev pub exactly : ℕ → List ℕ → Result (List ℕ × List ℕ) ReadFault
 exactly n bytes = if nat_lt (length bytes) n then Err Truncated else Ok (take n bytes, drop n bytes)
 
@@ -62,7 +62,7 @@ outline_at bytes =
     byte_from 0 64 a.1 >>= λ b.
     Ok (record { code = code.0; color = color_of color.0; ways = ways.0; sources = a.0; targets = b.0 }, b.1)
 
--- so many price lists, each a numbers for its sources and then b for its targets
+-- `ways` price lists, each a numbers for its sources and then b for its targets
 abbrev pub lists_of : ℕ → ℕ → ℕ → List ℕ → List PriceList
 lists_of zero a b bytes = []
 lists_of (suc ways) a b bytes = list_of (take a bytes) (take b (drop a bytes)) ∷ lists_of ways a b (drop (a + b) bytes)
@@ -102,7 +102,7 @@ version_of text =
     then version_named (slice_index text 3)
     else None
 
--- the header that so many bytes spell: the magic, one byte of plies, 32 bytes of diagram
+-- the header that 37 bytes spell: the magic, one byte of plies, 32 bytes of diagram
 abbrev pub header_of : List ℕ → Option Header
 header_of text =
     option_map (λ version. record { version = version; plies = slice_index text 4; diagram = drop 5 text })

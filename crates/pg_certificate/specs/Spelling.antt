@@ -65,7 +65,7 @@ header_length = 37
 abbrev pub longest_record : ℕ
 longest_record = 6 + 3 * (64 + 64)
 
--- a price list of bytes, for so many sources and targets
+-- a price list of bytes, for `a` sources and `b` targets
 pub record IsPriceList (a b : ℕ) (l : PriceList) : Type 0 where
   pub sources : length l.u ≡ a
   pub targets : length l.v ≡ b

@@ -296,7 +296,7 @@ impl RecordReader {
         Ok(self.pop())
     }
 
-    // Reads so many bytes.
+    // Reads as many bytes as `out` has.
     fn exact<S: Source>(&mut self, out: &mut [u8], source: &mut S) -> Result<(), ReadFault>
         requires { 0 < length out.old }
         ensures reads { Pulls S.left S.has_failed (λ _. out.new) (exactly (length out.old)) (length out.old)

@@ -50,7 +50,7 @@ pub trait Sink {
         ensures runs { OnOk result ((has_failed self.old ≡ false) × (has_failed self.new ≡ false)) }
         ensures fault { OnErr result (has_failed self.new ≡ true) };
 
-    /// Appends the bytes one by one, as so many pushes of one byte each do: what a refusal leaves and the
+    /// Appends the bytes one by one, as pushes of one byte each do: what a refusal leaves and the
     /// pieces that are handed on to another sink or to a writer are those of such pushes. A sink that can do
     /// the same in fewer steps writes its own.
     ///

@@ -118,7 +118,8 @@ one_header a h k x y e f = ap (λ (v : Header × List ℕ). v.0) (one_ok a (h, x
 no_header : (a : Headers) (f : reading_fault.ReadFault) (k : Header) (y : List ℕ) → a ≡ Err f → a ≡ Ok (k, y) → ⊥
 no_header a f k y e g = one_answer a f (k, y) e g
 
--- chess with a diagram, so many plies and games, of which a test says what is listed, cut as said for each diagram and version
+-- chess with the diagram d, n plies and these games, of which a test says what is listed, cut as said for each diagram
+-- and version
 abbrev pub rules_cut : (List (List Move) → List Move → Bool) → (Placement → ℕ → Cuts) → Placement → ℕ → List (List Move) → CheckRules
 rules_cut test all d n games = record { plies = n; of = λ version. chess_with d n (test games) (all d version) }
 

@@ -76,7 +76,7 @@ pub record Failures : Type 0 where
 abbrev pub failures : Bool → Bool → Failures
 failures source sink = record { source = source; sink = sink }
 
--- at most so many of the known bytes are no longer left in the source; a source that has failed does not tell
+-- no more than `most` of the known bytes are gone from the source; a source that has failed does not tell
 abbrev pub AnswerTakes : ℕ → Option (List ℕ) → Option (List ℕ) → Result Answer AnswerFault → Type 0
 AnswerTakes most before after (Err (answer_fault.Check fault.Read)) = Unit {0}
 AnswerTakes most before after answer = IfSome before (λ bytes. IfSome after (λ rest. length bytes ≤ length rest + most))

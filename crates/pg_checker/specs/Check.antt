@@ -25,7 +25,7 @@ abbrev pub header_for : ℕ → Placement → ℕ → Header
 header_for version d n = record { version = version; plies = n; diagram = packed_of d }
 
 -- the bytes are the whole spelling of a certificate of some version, for the diagram d, that fits the rules r, within
--- the limits, with so many records and named nodes
+-- the limits, with the records and named nodes that `proved` counts
 pub record IsCertified (r : CheckRules) (d : Placement) (max_records max_named : ℕ) (bytes : List ℕ) (proved : Proved)
     : Type 0 where
   pub version : ℕ
@@ -93,7 +93,7 @@ Refuses t d n games failed (Err (fault.Listed e)) = IsListFault d n games e
 Refuses t d n games failed (Err fault.Read) = AreSolutions d n games × (failed ≡ true)
 Refuses t d n games failed (Err e) = AreSolutions d n games × IfSome t.known (λ bytes. IsRefused t d n games bytes e)
 
--- at most so many of the known bytes are no longer left in the source; a source that has failed does not tell
+-- no more than `most` of the known bytes are gone from the source; a source that has failed does not tell
 abbrev pub Takes : ℕ → Option (List ℕ) → Option (List ℕ) → Result Proved Fault → Type 0
 Takes most before after (Err fault.Read) = Unit {0}
 Takes most before after answer = IfSome before (λ bytes. IfSome after (λ rest. length bytes ≤ length rest + most))

@@ -31,7 +31,7 @@ use Rattle.pg_checker.specs.PriceBytes.{are_prices}
 -- what cuts nodes in a certificate of a version
 pub record Cuts : Type 0 where
   pub version : ℕ
-  -- whether the bound of a code excludes at a state with so many plies left; None: no bound has the code
+  -- whether the bound of a code excludes at a state with a number of plies left; None: no bound has the code
   pub bounds : ℕ → State → ℕ → Option Bool
   -- whether prices of a code and a colour exclude there; None: no prices have the code
   pub prices : ℕ → Color → List PriceList → State → ℕ → Option Bool

@@ -58,7 +58,7 @@ pub(crate) fn header_fault(fault: ReadFault) -> Fault
     }
 }
 
-// The header, which must be for the diagram and so many plies; its version.
+// The header, which must be for the diagram and `plies` plies; its version.
 pub(crate) fn read_header<S: Source>(
     diagram: &Diagram,
     plies: u8,
@@ -148,8 +148,8 @@ pub(crate) fn walk<S: Source, W: CheckWatch>(
 /// `37 + 390 * max_records + 4,096` bytes are taken from a source that has not failed. A refusal
 /// changes no argument but the source.
 ///
-/// `Unlisted` proves that its game is a solution which the list lacks, and `Shorter` that a game of so many
-/// plies, fewer than the stated ones, ends on the diagram: of any source.
+/// `Unlisted` proves that its game is a solution which the list lacks, and `Shorter` that a game of the number of plies
+/// that it holds, fewer than stated, ends on the diagram: of any source.
 ///
 /// # Errors
 /// In the order of testing: `Listed` where a listed game is no solution; at the header `Read` or

@@ -47,7 +47,7 @@ fn check_game(diagram: &Diagram, plies: usize, game: &[Move], i: usize) -> Resul
     }
 }
 
-/// Whether each listed game is a solution: a game of so many plies from the initial array that ends
+/// Whether each listed game is a solution: a game of the stated length from the initial array that ends
 /// on the diagram. Takes no memory.
 ///
 /// # Errors

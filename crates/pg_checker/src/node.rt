@@ -217,7 +217,7 @@ fn ended(answer: Result<(), Reason>) -> Result<Opening, Halt>
     }
 }
 
-// A record with its price lists, judged at a node with so many plies left: what stands below the node, or
+// A record with its price lists, judged at a node with `left` plies left: what stands below the node, or
 // why the record is refused there.
 #[inline(always)]
 fn judge(

@@ -89,7 +89,7 @@ fn leaf_there(
     leaf(question, tree, frames, &spot.position(), finds)
 }
 
-// A node with so many plies left below it opens: all its moves are still to be played.
+// A node with `plies` plies left below it opens: all its moves are still to be played.
 fn open_at(position: &Position, plies: u8, named: bool, frames: &mut ArrayVec<Frame, 128>)
     requires { length frames.old.items < 128 }
     ensures { frames.new.items ≡ frames.old.items ++ (fresh position.now plies named ∷ []) }
@@ -184,7 +184,7 @@ fn enter<S: Source, W: CheckWatch>(
     }
 }
 
-// A node with so many plies left below it closes: a named one is entered in the table.
+// A node with `plies` plies left below it closes: a named one is entered in the table.
 fn close(position: &Position, plies: u8, named: bool, fertile: bool, table: &mut Table)
     requires few { plies < 128 }
     requires kept { one_if named ≤ table.old.kept }

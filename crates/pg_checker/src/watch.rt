@@ -10,10 +10,10 @@ use pg_travel::Prices;
 /// Is told of what a check meets in a certificate, as it reads it and before it is known whether it says yes. Nothing
 /// that it does changes an answer.
 pub trait CheckWatch {
-    /// The tree of so many plies begins.
+    /// The tree of `plies` plies begins.
     fn began(&mut self, plies: u8);
 
-    /// A node with so many plies left has this record; `prices` holds its price lists, where it has any. It is not
+    /// A node with `left` plies left has this record; `prices` holds its price lists, where it has any. It is not
     /// judged yet. The nodes of a tree come depth first, and the children of a node in the order of its moves.
     fn met(&mut self, spot: &Spot, left: u8, said: &Bare, prices: &Prices)
         requires { IsReached spot.now };
@@ -22,7 +22,7 @@ pub trait CheckWatch {
     fn ended(&mut self, spot: &Spot)
         requires { IsReached spot.now };
 
-    /// An expanded node at this position, with so many plies left, closes. Those that are named are numbered from 0 as
+    /// An expanded node at this position, with `left` plies left, closes. Those that are named are numbered from 0 as
     /// they close.
     fn closed(&mut self, position: &Position, left: u8, named: bool);
 }

@@ -3,6 +3,7 @@ pub mod EndLemmas
 pub mod JudgeLemmas
 pub mod KnowingLemmas
 pub mod ShowLemmas
+pub mod SolveLemmas
 pub mod StatusLemmas
 pub mod WordLemmas
 pub mod WrittenLemmas

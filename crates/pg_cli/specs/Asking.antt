@@ -1,5 +1,5 @@
 -- What a command is asked of.
-use Rattle.std.specs.Prelude.{◌≡◌, ◌⊎◌, ◌↔◌, ℕ, ◌<◌, List, length, Option, Result, Ok, Err, IsFalse, codes}
+use Rattle.std.specs.Prelude.{◌≡◌, ◌⊎◌, ◌↔◌, ℕ, List, Option, Result, Ok, Err, IsFalse, codes}
 use Rattle.either.specs.Either.{either, is_left}
 use Rattle.either.specs.declared.Either.{Either}
 use Rattle.clap.specs.Words.{Row, Text}
@@ -58,14 +58,12 @@ refuses_as_asked rows (asked.Search given) refusal = IsSearchRefused given refus
 refuses_as_asked rows (asked.File of certificate) refusal = Unit {0}
 refuses_as_asked rows (asked.Other of) refusal = refuses (Other of) rows refusal
 
--- what is asked is gone about by the bound by journeys too: a diagram that is shown always; a certificate where the words
--- say it, or tariffs stand before it; a check where they say so of journeys or of tolls; and a search too, but where they
--- say of tolls that journeys are left out
+-- what is asked is gone about by the bound by journeys too: a diagram that is shown and a certificate always; a check where
+-- the words say so of journeys or of tolls; and a search too, but where they say of tolls that journeys are left out
 abbrev pub GoesByJourneys : {F : Type 0} → Asked F → List Row → Type 0
 GoesByJourneys (asked.Other Show) rows = Unit {0}
 GoesByJourneys (asked.Check given carrying) rows = Says (codes "journeys") rows ⊎ Says (codes "tolls") rows
 GoesByJourneys (asked.Search given) rows =
     Says (codes "journeys") rows ⊎ (Says (codes "tolls") rows × ¬ Says (codes "no-journeys") rows)
-GoesByJourneys (asked.File of certificate) rows =
-    Says (codes "journeys") rows ⊎ (0 < length certificate.value.carrying.stated.items)
+GoesByJourneys (asked.File of certificate) rows = Unit {0}
 GoesByJourneys asked rows = ⊥

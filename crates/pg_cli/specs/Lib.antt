@@ -5,4 +5,5 @@ pub mod Judging
 pub mod Knowing
 pub mod Refusals
 pub mod Runs
+pub mod Solving
 pub mod Words

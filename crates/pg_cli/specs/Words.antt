@@ -15,12 +15,13 @@ use Rattle.pg_cli.specs.declared.commands.CertificateCommand.TheVariants.{Answer
 use Rattle.pg_cli.specs.declared.commands.Command.{Command}
 use Rattle.pg_cli.specs.declared.commands.Command.TheVariants.{OfProblem, Check, Search, OfCertificate, Other}
 use Rattle.pg_cli.specs.declared.commands.OtherCommand.{OtherCommand}
-use Rattle.pg_cli.specs.declared.commands.OtherCommand.TheVariants.{Show, Moves, Count, Judge, Upgrade}
+use Rattle.pg_cli.specs.declared.commands.OtherCommand.TheVariants.{Show, Moves, Count, Solve, Judge, Upgrade}
 use Rattle.pg_cli.specs.declared.commands.ProblemCommand.{ProblemCommand}
 use Rattle.pg_cli.specs.declared.commands.ProblemCommand.TheVariants.{Games, Cooks}
 use Rattle.pg_cli.specs.Answers.{HasAnswer, HasList, IsAnswered, OfSomeText}
 use Rattle.pg_cli.specs.Judging.{IsListJudged}
 use Rattle.pg_cli.specs.Knowing.{IsFollowedWith, IsTestedWith}
+use Rattle.pg_cli.specs.Solving.{IsSolvedBoard}
 
 -- the text of the word with this name; no text where there is none
 abbrev pub spelled : Text → List Row → List ℕ
@@ -87,6 +88,7 @@ name_of (OfProblem Cooks) = codes "cooks"
 name_of Check = codes "check"
 name_of (OfCertificate Answer) = codes "answer"
 name_of Search = codes "search"
+name_of (Other Solve) = codes "solve"
 name_of (Other Judge) = codes "judge"
 name_of (OfCertificate Why) = codes "why"
 name_of (OfCertificate Page) = codes "page"
@@ -108,11 +110,18 @@ says_of_certificate Answer d n status = HasAnswer d n status
 says_of_certificate Why d n status = HasList d n × (status ≡ 0)
 says_of_certificate Page d n status = HasList d n × (status ≡ 0)
 
+-- what a status of `pg solve` says: the word DIAGRAM spells a diagram, and LENGTH, if it is there, a length; a report
+-- has this status, of what is found of that diagram and of this length or, where there is no such word, of some length
+abbrev pub IsSolved : List Row → ℕ → Type 0
+IsSolved rows status = (text : List ℕ) × (d : Placement) × (asked : Option ℕ)
+    × SpellsBoard rows d asked × IsSolvedBoard d asked status text
+
 -- what it says of the words of any other command
 abbrev pub says_of_words : (Text → List ℕ → Type 0) → OtherCommand → List Row → ℕ → Type 0
 says_of_words Gives Show rows status = HasDiagram rows status
 says_of_words Gives Moves rows status = HasPosition rows status
 says_of_words Gives Count rows status = HasFewPlies rows status
+says_of_words Gives Solve rows status = IsSolved rows status
 says_of_words Gives Judge rows status = IsListJudged Gives (spelled (codes "PROBLEMS") rows) status
 says_of_words Gives Upgrade rows status = status ≡ 0
 

@@ -43,6 +43,8 @@ pub(crate) enum OtherCommand {
     Moves,
     /// How many games there are from a position.
     Count,
+    /// A problem is judged, and what is found of it is told as a report.
+    Solve,
     /// The problems of a file are judged.
     Judge,
     /// A certificate of version 1 is copied as one of version 2.
@@ -63,6 +65,7 @@ impl Command {
             "check" => Some(Command::Check),
             "answer" => Some(Command::OfCertificate(CertificateCommand::Answer)),
             "search" => Some(Command::Search),
+            "solve" => Some(Command::Other(OtherCommand::Solve)),
             "judge" => Some(Command::Other(OtherCommand::Judge)),
             "why" => Some(Command::OfCertificate(CertificateCommand::Why)),
             "page" => Some(Command::OfCertificate(CertificateCommand::Page)),

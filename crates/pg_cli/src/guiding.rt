@@ -18,6 +18,7 @@ use pg_certificate::format::MOST_NAMED;
 use pg_guide::{WhyFault, why as explain};
 use pg_report::{AnswerRunFault, Bound, Opened, RunFault, Sink, Source};
 use pg_streams::Gathered;
+use pg_tolls::Tariff;
 use std::alloc::Global;
 
 // Why a line is not explained, as a refusal.
@@ -33,9 +34,9 @@ fn refusal_of(fault: WhyFault) -> Refusal
     }
 }
 
-// Explains a line by a certificate that was opened, and writes what it says. A status means that a list of games is the
-// exact answer to the problem of its header, and that all of it is handed on, of which the last line says that the
-// certificate is right. Where more stands in the sink than before a list is the exact answer too.
+// Explains a line by a certificate that was opened, behind these tariffs, and writes what it says. A status means that
+// a list of games is the exact answer to the problem of its header, and that all of it is handed on, of which the last
+// line says that the certificate is right. Where more stands in the sink than before a list is the exact answer too.
 //
 // # Errors
 // `Check` with `Games` where the moves are refused, and `Line` where they are not one game; `Answer` where the
@@ -45,6 +46,7 @@ pub(crate) fn why_on<S: Source, W: Sink>(
     alloc: Global,
     words: &ArgMatches<'_>,
     opened: &mut Opened,
+    tariffs: &[Tariff],
     bounds: &[Box<dyn Bound>],
     source: &mut S,
     out: &mut Gathered<W>,
@@ -65,7 +67,7 @@ pub(crate) fn why_on<S: Source, W: Sink>(
     let moves = text_of(words, "MOVES");
     let records = records_of(words);
     match explain(
-        alloc, opened, moves, bounds, source, out, records, MOST_NAMED,
+        alloc, opened, moves, tariffs, bounds, source, out, records, MOST_NAMED,
     ) {
         Ok(()) => finished(DONE, out),
         Err(fault) => Err(refusal_of(fault)),

@@ -3,7 +3,7 @@
 
 use crate::lists::{tell_byte, tell_list, tell_misfit};
 use crate::refusals::{Reached, Refusal};
-use crate::spelling::{say_journeys, say_tolls, text_of};
+use crate::spelling::{say_tolls, text_of};
 use clap::ArgMatches;
 use pg_fen::LengthFault;
 use pg_files::first_bytes;
@@ -58,16 +58,16 @@ fn tell_packing<R: Runtime + AllocGlobal>(rt: &R, path: &str) {
     }
 }
 
-// Says which word lets a search reach further.
+// Says which command reaches further than a search with these words.
 fn tell_further<R: Eprint>(rt: &R, words: &ArgMatches<'_>) {
     if say_tolls(words) {
         return;
     }
-    if say_journeys(words) {
-        let _ = eprintln!(rt; "pg: --tolls reaches further");
-    } else {
-        let _ = eprintln!(rt; "pg: --journeys reaches further");
-    }
+    let (diagram, length) = (text_of(words, "DIAGRAM"), text_of(words, "LENGTH"));
+    let quote = if diagram.contains(' ') { "'" } else { "" };
+    let _ = eprintln!(rt;
+        "pg: this reaches further: pg solve {quote}{diagram}{quote} {length} --minutes 10"
+    );
 }
 
 // Says what a search with these words that gave up knows, and what to try.

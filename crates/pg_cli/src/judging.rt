@@ -18,24 +18,26 @@ use crate::keeping::{Loose, OnDisk};
 use crate::limits::{Reach, reach_of};
 use crate::refusals::{Named, Refusal};
 use crate::screen::Screen;
-use crate::spelling::{say_journeys, say_replace, text_of};
+use crate::spelling::{say_replace, text_of};
 use clap::ArgMatches;
 use pg_captures::{Bound, Captures, Promotions};
 use pg_certificate::{Refused, Sink, ToWrite};
 use pg_checker::AnswerFault;
 use pg_files::{
-    FileFault, FileName, begin_here, is_missing, list, make_folder, open_plain, size_of,
+    Draft, FileFault, FileName, begin, begin_here, is_missing, list, make_folder, open_plain,
+    size_of,
 };
 use pg_judge::{
-    Effort, Entry, EntryFault, Finding, JudgeProgress, Limits, Old, Ruling, Unsettled, is_sound,
-    judge as judge_problem, read_entry, recheck, time_is_over, unsettled_of, write_row,
+    Effort, Enough, Entry, EntryFault, Finding, JudgeProgress, Limits, Old, Prepared, Ruling,
+    Scratch, Unsettled, is_sound, judge as judge_problem, judge_by_tolls, prepare_tolls,
+    read_entry, recheck, time_is_over, unsettled_of, write_row,
 };
 use pg_pawns::PawnFiles;
 use pg_san::{GamesFault, next_line};
 use pg_searcher::SearchProgress;
 use pg_streams::{Cleared, Deadline, Gathered, JudgeLine, Passing, Terminal, Until};
-use pg_tariff_files::{CarriedFault, number_of, read_carried};
-use std::alloc::{AllocError, AllocFailed};
+use pg_tariff_files::{CarriedFault, number_of, read_carried, stating_all, write_carried};
+use std::alloc::{AllocError, AllocFailed, Global};
 use std::collections::BTreeSet;
 use std::fmt::{Display, Formatter};
 use std::io::{Cursor, Eprint, Read};
@@ -44,7 +46,7 @@ use std::time::Clock;
 use std::{fmt, io};
 
 // The most nodes of one search for the games of a problem, where the words do not say it.
-const NODES: u64 = 100_000_000;
+pub(crate) const NODES: u64 = 100_000_000;
 
 // A line of a list of problems is bad.
 const BAD: u8 = 2;
@@ -52,14 +54,24 @@ const BAD: u8 = 2;
 // A problem is not sound, or not settled.
 const OTHER: u8 = 1;
 
-// What is asked of each problem: how far it is searched, where certificates stand, if they are kept, and whether those of
-// other problems are replaced there.
+// Where the certificate of a problem is kept.
 #[derive(Clone, Copy)]
-struct Orders<'a> {
-    reach: Reach,
-    by_journeys: bool,
-    folder: Option<&'a str>,
-    replaces: bool,
+pub(crate) enum Place<'a> {
+    /// Nowhere.
+    Nowhere,
+    /// In a folder, under the name of the problem.
+    Folder(&'a str),
+    /// In a file.
+    File(&'a str),
+}
+
+// What is asked of each problem: its limits, where its certificate is kept, and whether another one is replaced there.
+#[derive(Clone, Copy)]
+pub(crate) struct Orders<'a> {
+    pub(crate) reach: Reach,
+    pub(crate) enough: Enough,
+    pub(crate) place: Place<'a>,
+    pub(crate) replaces: bool,
 }
 
 impl Orders<'_> {
@@ -67,17 +79,39 @@ impl Orders<'_> {
     fn limits(&self) -> Limits {
         Limits {
             max_nodes: self.reach.nodes,
-            by_journeys: self.by_journeys,
+            enough: self.enough,
         }
     }
 }
 
-// Shows how far a problem is judged, and ends that when its time is over.
+// Shows how far a problem is judged, and ends that when its time is over. A search by drawn orders has a tenth of it.
 #[derive(Drop)]
-struct Watch<'a, R> {
-    line: JudgeLine<'a, R>,
+pub(crate) struct Watch<'a, R> {
+    rt: &'a R,
+    pub(crate) line: JudgeLine<'a, R>,
+    milliseconds: Option<u64>,
     deadline: Deadline<'a, R>,
+    drawn: Option<Deadline<'a, R>>,
     terminal: &'a Terminal,
+}
+
+impl<'a, R: Clock + Eprint> Watch<'a, R> {
+    // Of a problem with its number, from 1, which is judged from now on, within these milliseconds if any are told.
+    pub(crate) fn new(
+        rt: &'a R,
+        terminal: &'a Terminal,
+        turn: Turn,
+        milliseconds: Option<u64>,
+    ) -> Watch<'a, R> {
+        Watch {
+            rt,
+            line: JudgeLine::new(rt, terminal, turn.number, turn.count),
+            milliseconds,
+            deadline: Deadline::new(rt, milliseconds),
+            drawn: None,
+            terminal,
+        }
+    }
 }
 
 impl<R: Clock + Eprint> JudgeProgress for Watch<'_, R> {
@@ -86,10 +120,18 @@ impl<R: Clock + Eprint> JudgeProgress for Watch<'_, R> {
             Effort::Cooks => "cooks",
             Effort::Search => "search",
             Effort::Journeys => "journeys",
+            Effort::Drawn => "drawn",
             Effort::Tariffs => "tariffs",
             Effort::Tolls => "tolls",
         };
         self.line.begin(called, limit);
+        if let (Effort::Drawn, Some(all)) = (effort, self.milliseconds) {
+            self.drawn = Some(Deadline::new(self.rt, Some(all / 10)));
+        }
+    }
+
+    fn has_drawn(&mut self) {
+        self.drawn = None;
     }
 }
 
@@ -99,20 +141,25 @@ impl<R: Clock + Eprint> SearchProgress for Watch<'_, R> {
     }
 
     fn goes_on(&mut self) -> bool {
+        if let Some(drawn) = &mut self.drawn {
+            if drawn.is_over() {
+                return false;
+            }
+        }
         !self.deadline.is_over()
     }
 }
 
 // What is found of a problem, and what stood in the place of its certificate.
 #[derive(Drop)]
-struct Judged {
-    ruling: Ruling,
+pub(crate) struct Judged {
+    pub(crate) ruling: Ruling,
     old: Old,
 }
 
 // Why a problem has no row.
 #[derive(Drop)]
-enum Spoiled {
+pub(crate) enum Spoiled {
     /// The run ends.
     Run(Refusal),
     /// The file of its certificate is not read or written.
@@ -238,20 +285,93 @@ fn recheck_at<R: Runtime + AllocGlobal>(
     }
 }
 
-// Judges a problem, and puts the certificate that settles it at this path. A link there is not followed.
+// What stands before the certificate of a search by these tariffs: nothing where there are none.
+fn lead_of(alloc: Global, stated: &[u8]) -> Result<Vec<u8>, AllocError> {
+    let mut sink = ToWrite::new(Vec::new(alloc));
+    if !stated.is_empty() && write_carried(number_of(stated), stated, &mut sink).is_err() {
+        return Err(AllocError);
+    }
+    Ok(sink.into_inner())
+}
+
+// Judges a problem by the five bounds and by the tariffs that were found for it.
+#[inline(never)]
+fn judge_with_tolls<R: Runtime + AllocGlobal, S: Scratch, P: JudgeProgress>(
+    rt: &R,
+    entry: &Entry<'_>,
+    prepared: Prepared,
+    limits: Limits,
+    scratch: &mut S,
+    watch: &mut P,
+) -> Result<Ruling, Spoiled>
+    ensures ok { IfOk result (λ r. IsFindingOf entry.now r.finding) }
+    ensures err { IfErr result (IsSpoiled false) }
+{
+    let stated = stating_all(rt.alloc(), prepared.tariffs.as_slice())?;
+    let lead = lead_of(rt.alloc(), stated.as_slice())?;
+    let diagram = &entry.problem.diagram;
+    let captures = Box::new(rt.alloc(), Captures)?;
+    let promotions = Box::new(rt.alloc(), Promotions)?;
+    let pawn_files = Box::new(rt.alloc(), PawnFiles)?;
+    let travel = travel_to(rt.alloc(), diagram)?;
+    let journeys = journeys_to(rt.alloc(), diagram)?;
+    let five: [Box<dyn Bound>; 5] = [captures, promotions, pawn_files, travel, journeys];
+    let mut bounds = Vec::from_array(rt.alloc(), five)?;
+    for number in 0..number_of(stated.as_slice()) {
+        let tolls: Box<dyn Bound> = tolls_to(rt.alloc(), diagram, stated.as_slice(), number)?;
+        bounds.push(tolls)?;
+    }
+    Ok(judge_by_tolls(
+        rt.alloc(),
+        entry,
+        bounds.as_slice(),
+        prepared,
+        lead.as_slice(),
+        limits,
+        scratch,
+        watch,
+    ))
+}
+
+// Judges a problem by its first searches, and where these leave it open by tolls.
+#[inline(never)]
+fn judge_on<R: Runtime + AllocGlobal, S: Scratch, P: JudgeProgress>(
+    rt: &R,
+    entry: &Entry<'_>,
+    bounds: &[Box<dyn Bound>],
+    limits: Limits,
+    scratch: &mut S,
+    watch: &mut P,
+) -> Result<Ruling, Spoiled>
+    ensures ok { IfOk result (λ r. IsFindingOf entry.now r.finding) }
+    ensures err { IfErr result (IsSpoiled false) }
+{
+    let pending = match judge_problem(rt.alloc(), entry, bounds, limits, scratch, watch) {
+        Ok(ruling) => return Ok(ruling),
+        Err(pending) => pending,
+    };
+    if !pending.goes_on(limits, watch) {
+        return Ok(pending.ruling(entry));
+    }
+    match prepare_tolls(rt.alloc(), entry, bounds, pending, limits, watch) {
+        Ok(prepared) => judge_with_tolls(rt, entry, prepared, limits, scratch, watch),
+        Err(ruling) => Ok(ruling),
+    }
+}
+
+// Judges a problem, and puts the certificate that settles it in the place of a draft.
 #[inline(never)]
 fn judge_to<R: Runtime + AllocGlobal, P: JudgeProgress>(
     rt: &R,
     entry: &Entry<'_>,
     bounds: &[Box<dyn Bound>],
     orders: &Orders<'_>,
-    path: &str,
+    draft: Draft<R::File>,
     watch: &mut P,
 ) -> Result<Ruling, Spoiled>
     ensures ok { IfOk result (λ r. IsFindingOf entry.now r.finding) }
     ensures err { IfErr result (IsSpoiled false) }
 {
-    let draft = begin_here(rt, path)?;
     let handle = match draft.handle() {
         Ok(handle) => handle,
         Err(fault) => {
@@ -260,14 +380,13 @@ fn judge_to<R: Runtime + AllocGlobal, P: JudgeProgress>(
         }
     };
     let mut scratch = OnDisk::new(handle, orders.reach.bytes);
-    let ruling = judge_problem(
-        rt.alloc(),
-        entry,
-        bounds,
-        orders.limits(),
-        &mut scratch,
-        watch,
-    );
+    let ruling = match judge_on(rt, entry, bounds, orders.limits(), &mut scratch, watch) {
+        Ok(ruling) => ruling,
+        Err(spoiled) => {
+            draft.discard(rt);
+            return Err(spoiled);
+        }
+    };
     if !matches!(&ruling.finding, Finding::Settled(_, _)) {
         draft.discard(rt);
         return Ok(ruling);
@@ -285,23 +404,20 @@ fn judge_loosely<R: Runtime + AllocGlobal, P: JudgeProgress>(
     entry: &Entry<'_>,
     bounds: &[Box<dyn Bound>],
     orders: &Orders<'_>,
+    old: Old,
     watch: &mut P,
-) -> Ruling
-    ensures { IsFindingOf entry.now result.finding }
+) -> Result<Judged, Spoiled>
+    ensures ok { IfOk result (λ j. IsFindingOf entry.now j.ruling.finding) }
+    ensures err { IfErr result (IsSpoiled false) }
 {
     let mut scratch = Loose::new(rt, orders.reach.bytes);
-    judge_problem(
-        rt.alloc(),
-        entry,
-        bounds,
-        orders.limits(),
-        &mut scratch,
-        watch,
-    )
+    match judge_on(rt, entry, bounds, orders.limits(), &mut scratch, watch) {
+        Ok(ruling) => Ok(Judged { ruling, old }),
+        Err(spoiled) => Err(spoiled),
+    }
 }
 
-// Judges a problem: by the certificate that stands in the folder, if one does and is right, else by searches. What they
-// write is put there, but in the place of a certificate of another problem only where that is asked.
+// Judges a problem by the certificate of the folder, if that is right, else by searches, which put theirs there.
 fn judge_in<R: Runtime + AllocGlobal>(
     rt: &R,
     entry: &Entry<'_>,
@@ -324,21 +440,43 @@ fn judge_in<R: Runtime + AllocGlobal>(
         Err(spoiled) => return Err(spoiled),
     };
     if old == Old::OfAnother && !orders.replaces {
-        let ruling = judge_loosely(rt, entry, bounds, orders, watch);
-        return Ok(Judged { ruling, old });
+        return judge_loosely(rt, entry, bounds, orders, old, watch);
     }
     let old = if old == Old::OfAnother {
         Old::Refused
     } else {
         old
     };
-    match judge_to(rt, entry, bounds, orders, path, watch) {
+    let draft = begin_here(rt, path)?;
+    match judge_to(rt, entry, bounds, orders, draft, watch) {
         Ok(ruling) => Ok(Judged { ruling, old }),
         Err(spoiled) => Err(spoiled),
     }
 }
 
-// Judges a problem, with its certificate at this path, if certificates are kept.
+// Judges a problem by searches, and puts its certificate in the file of this name.
+fn judge_at<R: Runtime + AllocGlobal>(
+    rt: &R,
+    entry: &Entry<'_>,
+    bounds: &[Box<dyn Bound>],
+    orders: &Orders<'_>,
+    name: &str,
+    watch: &mut Watch<'_, R>,
+) -> Result<Judged, Spoiled>
+    ensures ok { IfOk result (λ j. IsFindingOf entry.now j.ruling.finding) }
+    ensures err { IfErr result (IsSpoiled false) }
+{
+    let draft = begin(rt, name)?;
+    match judge_to(rt, entry, bounds, orders, draft, watch) {
+        Ok(ruling) => Ok(Judged {
+            ruling,
+            old: Old::Absent,
+        }),
+        Err(spoiled) => Err(spoiled),
+    }
+}
+
+// Judges a problem, with its certificate at this path, if certificates are kept in a folder.
 fn judge_by<R: Runtime + AllocGlobal>(
     rt: &R,
     entry: &Entry<'_>,
@@ -350,24 +488,26 @@ fn judge_by<R: Runtime + AllocGlobal>(
     ensures ok { IfOk result (λ j. IsFindingOf entry.now j.ruling.finding) }
     ensures err { IfErr result (IsSpoiled false) }
 {
-    match path {
-        Some(path) => judge_in(rt, entry, bounds, orders, path, watch),
-        None => Ok(Judged {
-            ruling: judge_loosely(rt, entry, bounds, orders, watch),
-            old: Old::Absent,
-        }),
+    if let Some(path) = path {
+        return judge_in(rt, entry, bounds, orders, path, watch);
+    }
+    match orders.place {
+        Place::File(name) => judge_at(rt, entry, bounds, orders, name, watch),
+        Place::Nowhere | Place::Folder(_) => {
+            judge_loosely(rt, entry, bounds, orders, Old::Absent, watch)
+        }
     }
 }
 
-// Where the certificate of a problem stands, if certificates are kept.
+// Where the certificate of a problem stands, if certificates are kept in a folder.
 fn path_of<R: Runtime + AllocGlobal>(
     rt: &R,
     entry: &Entry<'_>,
-    folder: Option<&str>,
+    place: Place<'_>,
 ) -> Result<Option<String>, Spoiled>
     ensures { IfErr result (IsSpoiled false) }
 {
-    let Some(folder) = folder else {
+    let Place::Folder(folder) = place else {
         return Ok(None);
     };
     match format!(in rt.alloc(); "{folder}/{}.pgc", entry.name) {
@@ -376,8 +516,7 @@ fn path_of<R: Runtime + AllocGlobal>(
     }
 }
 
-// The bytes that state the tariffs of the file at this path, if it is one with tariffs; what else is wrong with it is
-// told where it is checked.
+// The bytes that state the tariffs of the file at this path, if it has some; its other faults are told by its check.
 #[inline(never)]
 fn tariffs_at<R: Runtime + AllocGlobal>(rt: &R, path: Option<&str>) -> Result<Vec<u8>, Spoiled>
     ensures { IfErr result (IsSpoiled false) }
@@ -396,8 +535,9 @@ fn tariffs_at<R: Runtime + AllocGlobal>(rt: &R, path: Option<&str>) -> Result<Ve
     }
 }
 
-// Judges a problem by the five bounds, and by the tariffs of the file that stands in the place of its certificate.
-fn judge_entry<R: Runtime + AllocGlobal>(
+// Judges a problem by the five bounds, and by the tariffs that stand in its folder; searches find tariffs of their own.
+#[inline(never)]
+pub(crate) fn judge_entry<R: Runtime + AllocGlobal>(
     rt: &R,
     entry: &Entry<'_>,
     orders: &Orders<'_>,
@@ -413,7 +553,7 @@ fn judge_entry<R: Runtime + AllocGlobal>(
     let journeys = journeys_to(rt.alloc(), &entry.problem.diagram)?;
     let five: [Box<dyn Bound>; 5] = [captures, promotions, pawn_files, travel, journeys];
     let mut bounds = Vec::from_array(rt.alloc(), five)?;
-    let path = match path_of(rt, entry, orders.folder) {
+    let path = match path_of(rt, entry, orders.place) {
         Ok(path) => path,
         Err(spoiled) => return Err(spoiled),
     };
@@ -431,7 +571,7 @@ fn judge_entry<R: Runtime + AllocGlobal>(
 }
 
 // The status of a ruling: 0 where it is said that the problem is sound, else 1.
-fn status_of(ruling: &Ruling) -> u8
+pub(crate) fn status_of(ruling: &Ruling) -> u8
     ensures { IsFindingStatus ruling.now.finding result }
 {
     if is_sound(ruling) {
@@ -442,13 +582,12 @@ fn status_of(ruling: &Ruling) -> u8
 
 // Which of how many problems.
 #[derive(Clone, Copy)]
-struct Turn {
-    number: usize,
-    count: usize,
+pub(crate) struct Turn {
+    pub(crate) number: usize,
+    pub(crate) count: usize,
 }
 
-// Judges a problem, and writes its row and hands it on; its status: 0 where it is sound, else 1. Nothing is written
-// where it has none, but where the sink refuses it.
+// Judges a problem, writes its row and hands it on: 0 where it is sound, else 1. A refusal leaves no row in the sink.
 #[inline(never)]
 fn judge_and_tell<R: Runtime + AllocGlobal, W: Sink>(
     rt: &R,
@@ -464,11 +603,7 @@ fn judge_and_tell<R: Runtime + AllocGlobal, W: Sink>(
     ensures err { IfErr result (IsSpoiled (⟦<Gathered<W> as Sink>⟧.has_failed out.new)) }
     ensures unwritten { IfErr result (λ spoiled. spoiled ≢ Spoiled.Run Refusal.Write → out.new ≡ out.old) }
 {
-    let mut watch = Watch {
-        line: JudgeLine::new(rt, terminal, turn.number, turn.count),
-        deadline: Deadline::new(rt, orders.reach.milliseconds),
-        terminal,
-    };
+    let mut watch = Watch::new(rt, terminal, turn, orders.reach.milliseconds);
     let answer = judge_entry(rt, entry, orders, &mut watch);
     watch.line.end();
     let judged = match answer {
@@ -482,6 +617,14 @@ fn judge_and_tell<R: Runtime + AllocGlobal, W: Sink>(
     match out.flush() {
         Ok(()) => Ok(status_of(&judged.ruling)),
         Err(Refused) => Err(Spoiled::Run(Refusal::Write)),
+    }
+}
+
+// The folder of the certificates; no text where there is none.
+fn folder_of(place: Place<'_>) -> &str {
+    match place {
+        Place::Folder(folder) => folder,
+        Place::Nowhere | Place::File(_) => "",
     }
 }
 
@@ -525,10 +668,9 @@ fn judge_line<'t, R: Runtime + AllocGlobal, W: Sink>(
         Ok(status) => Ok(status),
         Err(Spoiled::Run(refusal)) => Err(refusal),
         Err(Spoiled::Place(fault)) => {
-            let (folder, name) = (orders.folder.unwrap_or(""), entry.name);
             let place = AtPlace {
-                folder,
-                name,
+                folder: folder_of(orders.place),
+                name: entry.name,
                 fault,
             };
             Ok(say_bad(rt, seen.lines, place))
@@ -557,8 +699,7 @@ fn count_problems(text: &[u8]) -> usize {
     count
 }
 
-// Judges the problems of a text, line by line, and writes and hands on their rows. The status is 2 where a line is bad,
-// else 0 where each problem is sound, else 1.
+// Judges the problems of a text and hands on their rows: 2 where a line is bad, else 0 where each is sound, else 1.
 //
 // # Errors
 // `Memory`, with the rows of the first lines written, and `Write` where the sink has failed.
@@ -624,8 +765,7 @@ fn make_place<R: Runtime + AllocGlobal>(rt: &R, folder: Option<&str>) -> Result<
     }
 }
 
-// `pg judge`: a row for each problem stands on standard output. A status is that of the lines of a text that PROBLEMS
-// gives, a file or standard input; of a real one no contract can say which text that is.
+// `pg judge`: a row for each problem of the text that PROBLEMS gives, of which no contract can say which text it is.
 #[inline(never)]
 pub(crate) fn judge<R: Runtime + AllocGlobal>(
     rt: &R,
@@ -647,8 +787,11 @@ pub(crate) fn judge<R: Runtime + AllocGlobal>(
     }
     let orders = Orders {
         reach: reach_of(words, NODES),
-        by_journeys: say_journeys(words),
-        folder,
+        enough: Enough::OneSearch,
+        place: match folder {
+            Some(folder) => Place::Folder(folder),
+            None => Place::Nowhere,
+        },
         replaces: say_replace(words),
     };
     let terminal = Terminal::new(screen.lines);

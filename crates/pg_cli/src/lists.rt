@@ -15,13 +15,28 @@ use std::str;
 // The most squares that are told on which a game ends otherwise.
 const SQUARES: u8 = 4;
 
-// The bytes of a list that the words name, where they can be read again: MOVES, or a plain file.
+// The moves that the words spell themselves, as one game.
+fn moves_in<'a>(words: &ArgMatches<'a>) -> Option<&'a str> {
+    match words.get_str("MOVES") {
+        Some(moves) => Some(moves),
+        None => words.get_str("game"),
+    }
+}
+
+// The name of the file that a list is read from: where the words have none, that of standard input.
+fn list_in<'a>(words: &ArgMatches<'a>) -> &'a str {
+    match words.get_str("GAMES") {
+        Some(name) => name,
+        None => words.get_str("games").unwrap_or(INPUT),
+    }
+}
+
+// The bytes of a list that the words name, where they can be read again: moves, or a plain file.
 fn list_again<R: Runtime + AllocGlobal>(rt: &R, words: &ArgMatches<'_>) -> Option<Vec<u8>> {
-    if let Some(moves) = words.get_str("MOVES") {
+    if let Some(moves) = moves_in(words) {
         return Vec::from_slice(rt.alloc(), moves.as_bytes()).ok();
     }
-    let name = words.get_str("GAMES").unwrap_or(INPUT);
-    let mut file = open_plain(rt, name).ok()?;
+    let mut file = open_plain(rt, list_in(words)).ok()?;
     read_all(rt.alloc(), &mut file).ok()
 }
 

@@ -1,13 +1,13 @@
-//! The program `pg`, the checker of shortest proof games: `pg show DIAGRAM [LENGTH]`, `pg moves FEN`, `pg count FEN
-//! PLIES`, `pg games DIAGRAM LENGTH [GAMES]`, `pg cooks DIAGRAM LENGTH GAMES [--nodes N] [--foreign D]`, `pg check
-//! DIAGRAM LENGTH CERT [GAMES] [--records N]`, `pg answer CERT [--records N]`, `pg search DIAGRAM LENGTH CERT
-//! [--nodes N] [--games FILE]`, `pg judge PROBLEMS [--certificates FOLDER] [--nodes N]`, `pg why CERT MOVES
-//! [--records N]`, `pg page CERT [--records N] [--nodes K]` and `pg upgrade OLD NEW [--records N]`; `--journeys` stands
-//! behind `check`, `answer`, `search`, `judge`, `why` and `page`, `--tolls` behind `check` and, with `--no-journeys`,
-//! behind `search`, `--minutes M` behind `cooks`, `search` and `judge`.
+//! The program `pg`, the checker of shortest proof games: `pg solve DIAGRAM [LENGTH] [--game MOVES] [--keep CERT]`,
+//! `pg show DIAGRAM [LENGTH]`, `pg moves FEN`, `pg count FEN PLIES`, `pg games DIAGRAM LENGTH [GAMES]`, `pg cooks
+//! DIAGRAM LENGTH GAMES [--nodes N] [--foreign D]`, `pg check DIAGRAM LENGTH CERT [GAMES] [--records N]`, `pg answer
+//! CERT [--records N]`, `pg search DIAGRAM LENGTH CERT [--nodes N] [--games FILE]`, `pg judge PROBLEMS [--certificates
+//! FOLDER] [--nodes N]`, `pg why CERT MOVES [--records N]`, `pg page CERT [--records N] [--nodes K]` and `pg upgrade
+//! OLD NEW [--records N]`; `--journeys` and `--tolls` stand behind `check` and `search`, `--minutes M` behind `cooks`,
+//! `search`, `solve` and `judge`. docs/FORMATS.md has all words.
 #![tactic(auto)]
 
-ghost use Rattle.std.specs.Prelude.{◌≡◌, ◌⊎◌, ◌↔◌, ◌<◌, length, codes, IsTrue, IfOk, IfErr};
+ghost use Rattle.std.specs.Prelude.{◌≡◌, ◌⊎◌, ◌↔◌, codes, IsTrue, IfOk, IfErr};
 ghost use Rattle.clap.specs.Words.{found_of, rows_of};
 ghost use Rattle.pg_cli.specs.Answers.{IsGivenBy, IsNamedBy, OfGiven};
 ghost use Rattle.pg_cli.specs.Asking.{GoesByJourneys, refuses_as_asked, says_as_asked};
@@ -31,6 +31,7 @@ mod positions;
 mod refusals;
 mod screen;
 mod searching;
+mod solving;
 mod spelling;
 mod telling;
 mod upgrading;
@@ -82,20 +83,6 @@ fn searches_by_journeys(words: &ArgMatches<'_>) -> bool
     say_journeys(words) || joins_journeys(words)
 }
 
-// Whether bytes state tariffs.
-fn state_some(tariffs: &[u8]) -> bool
-    ensures { IsTrue result ↔ (0 < length tariffs.now) }
-{
-    !tariffs.is_empty()
-}
-
-// Whether a certificate with these tariffs is read by journeys too, with these words.
-fn reads_by_journeys(tariffs: &[u8], words: &ArgMatches<'_>) -> bool
-    ensures { IsTrue result ↔ (Says (codes "journeys") (rows_of (found_of words.now)) ⊎ (0 < length tariffs.now)) }
-{
-    say_journeys(words) || state_some(tariffs)
-}
-
 // Whether what is asked with these words is gone about by the bound by journeys too.
 fn goes_by_journeys<F>(asked: &Asked<F>, words: &ArgMatches<'_>) -> bool
     ensures { IsTrue result ↔ GoesByJourneys asked.now (rows_of (found_of words.now)) }
@@ -104,9 +91,7 @@ fn goes_by_journeys<F>(asked: &Asked<F>, words: &ArgMatches<'_>) -> bool
         Asked::Other(OtherCommand::Show) => true,
         Asked::Check(_, _) => checks_by_journeys(words),
         Asked::Search(_) => searches_by_journeys(words),
-        Asked::File(_, certificate) => {
-            reads_by_journeys(certificate.carrying.stated.as_slice(), words)
-        }
+        Asked::File(_, _) => true,
         _ => false,
     }
 }
@@ -160,6 +145,7 @@ fn other<R: Runtime + AllocGlobal>(
         OtherCommand::Show => positions::show(rt, words, bounds),
         OtherCommand::Moves => positions::moves(rt, words),
         OtherCommand::Count => positions::count(rt, words, screen.lines),
+        OtherCommand::Solve => solving::solve(rt, words, screen),
         OtherCommand::Judge => judging::judge(rt, words, screen),
         OtherCommand::Upgrade => upgrading::upgrade(rt, words, screen.lines),
     }

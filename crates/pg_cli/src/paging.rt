@@ -18,6 +18,7 @@ use pg_certificate::format::MOST_NAMED;
 use pg_page::{PageFault, page as show};
 use pg_report::{AnswerRunFault, Bound, Opened, RunFault, Sink, Source};
 use pg_streams::Gathered;
+use pg_tolls::Tariff;
 use std::alloc::Global;
 
 // The most expanded nodes that are told, where the words do not say it.
@@ -34,9 +35,9 @@ fn refusal_of(fault: PageFault) -> Refusal
     }
 }
 
-// Checks a certificate that was opened, and writes the page that shows it; nothing before the check has said yes. A
-// status means that the games which the certificate proves are the exact answer to the problem of its header, and that
-// the page is handed on, whose head is that of just these.
+// Checks a certificate that was opened, behind these tariffs, and writes the page that shows it; nothing before the
+// check has said yes. A status means that the games which the certificate proves are the exact answer to the problem of
+// its header, and that the page is handed on, whose head is that of just these.
 //
 // # Errors
 // `Answer` where the certificate does not give its games; `Memory`; and `Check` with `Write` where writing is refused.
@@ -45,6 +46,7 @@ pub(crate) fn page_on<S: Source, W: Sink>(
     alloc: Global,
     words: &ArgMatches<'_>,
     opened: &mut Opened,
+    tariffs: &[Tariff],
     bounds: &[Box<dyn Bound>],
     source: &mut S,
     out: &mut Gathered<W>,
@@ -65,7 +67,7 @@ pub(crate) fn page_on<S: Source, W: Sink>(
     let nodes = words.get_one::<u64>("nodes").unwrap_or(NODES);
     let records = records_of(words);
     match show(
-        alloc, opened, nodes, bounds, source, out, records, MOST_NAMED,
+        alloc, opened, nodes, tariffs, bounds, source, out, records, MOST_NAMED,
     ) {
         Ok(()) => finished(DONE, out),
         Err(fault) => Err(refusal_of(fault)),

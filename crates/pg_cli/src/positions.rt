@@ -99,16 +99,16 @@ pub(crate) fn count<R: Runtime + AllocGlobal>(
 
 // A diagram, and the length that is asked, if one is.
 #[derive(Clone, Copy)]
-struct Board {
-    diagram: Diagram,
-    asked: Option<Length>,
+pub(crate) struct Board {
+    pub(crate) diagram: Diagram,
+    pub(crate) asked: Option<Length>,
 }
 
 // What the words DIAGRAM and LENGTH spell, where the second may be missing.
 //
 // # Errors
 // `Check` with `Diagram` and then `Length` where that word is refused.
-fn board_in(words: &ArgMatches<'_>) -> Result<Board, Refusal>
+pub(crate) fn board_in(words: &ArgMatches<'_>) -> Result<Board, Refusal>
     ensures spelled { IfOk result (λ board. SpellsBoard (rows_of (found_of words.now)) board.diagram board.asked) }
     ensures err { IfErr result (λ refusal. IsOfBoard (rows_of (found_of words.now)) refusal) }
 {

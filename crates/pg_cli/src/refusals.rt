@@ -48,7 +48,7 @@ pub(crate) enum Named {
     Certificate,
     /// The list of games that is read.
     Games,
-    /// The list of games that a search writes.
+    /// The list of games that a search writes, or that is read for a problem that is solved.
     Kept,
     /// The certificate that is copied.
     Old,
@@ -58,6 +58,8 @@ pub(crate) enum Named {
     Problems,
     /// The folder in which certificates stand.
     Folder,
+    /// The certificate that is kept of a problem that is solved.
+    Proof,
 }
 
 impl Named {
@@ -71,6 +73,7 @@ impl Named {
             Named::New => "NEW",
             Named::Problems => "PROBLEMS",
             Named::Folder => "certificates",
+            Named::Proof => "keep",
         }
     }
 }
@@ -81,6 +84,7 @@ impl Display for Named {
         match self {
             Named::Kept => f.write_str("--games"),
             Named::Folder => f.write_str("--certificates"),
+            Named::Proof => f.write_str("--keep"),
             named => f.write_str(named.word()),
         }
     }

@@ -24,9 +24,9 @@ use pg_report::{
 };
 use pg_searcher::{FoundTariffs, Met, find_tariffs, search_by_tolls};
 use pg_streams::{Cleared, Deadline, Gathered, Limited, Passing, SearchLine, Terminal, Timed};
-use pg_tariff_files::{BYTES, MAGIC, number_of, stating_all, tariff_at, write_carried};
+use pg_tariff_files::{BYTES, MAGIC, number_of, stating_all, tariffs_of, write_carried};
 use pg_tolls::Tariff;
-use std::alloc::{AllocError, Global};
+use std::alloc::Global;
 use std::io;
 use std::io::{Read, Seek, SeekFrom, Write};
 use std::rt::Runtime;
@@ -87,15 +87,6 @@ fn known_of(problem: &Problem, games: &Games, nodes: u64, ended: Ended) -> Resul
         }),
         Err(fault) => Err(Refusal::Check(RunFault::Check(Fault::Listed(fault)))),
     }
-}
-
-// The tariffs that bytes state.
-fn tariffs_of(alloc: Global, stated: &[u8]) -> Result<Vec<Tariff>, AllocError> {
-    let mut tariffs = Vec::new(alloc);
-    for number in 0..number_of(stated) {
-        tariffs.push(tariff_at(stated, number))?;
-    }
-    Ok(tariffs)
 }
 
 // Writes what stands before a certificate by these tariffs, if there are any. A sink that refuses it refuses what is

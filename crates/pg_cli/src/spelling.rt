@@ -91,8 +91,15 @@ pub(crate) fn say_replace(words: &ArgMatches<'_>) -> bool
     say(words, "replace")
 }
 
+// Whether the words say `--all`.
+pub(crate) fn say_all(words: &ArgMatches<'_>) -> bool
+    ensures { IsTrue result ↔ Says (codes "all") (rows_of (found_of words.now)) }
+{
+    say(words, "all")
+}
+
 // The words that name files and folders.
-const NAMES: [Named; 7] = [
+const NAMES: [Named; 8] = [
     Named::Certificate,
     Named::Games,
     Named::Kept,
@@ -100,6 +107,7 @@ const NAMES: [Named; 7] = [
     Named::New,
     Named::Problems,
     Named::Folder,
+    Named::Proof,
 ];
 
 // The first word of a command that is to name a file or a folder and is empty, if one is.

@@ -13,6 +13,7 @@ use clap::ArgMatches;
 use pg_files::size_of;
 use pg_report::{Bound, ToWrite};
 use pg_streams::{Cleared, Gathered, Passing, Terminal};
+use pg_tariff_files::tariffs_of;
 use std::io;
 use std::io::Read;
 use std::rt::Runtime;
@@ -33,6 +34,9 @@ pub(crate) fn tell<R: Runtime + AllocGlobal, F: Read + Drop>(
 {
     let Certificate { carrying, opened } = certificate;
     let alloc = rt.alloc();
+    let Ok(tariffs) = tariffs_of(alloc, carrying.stated.as_slice()) else {
+        return Err(Refusal::Memory);
+    };
     let terminal = Terminal::new(screen);
     let size = size_of(rt, text_of(words, "CERT"));
     let mut source = Passing::new(rt, &terminal, &mut carrying.file, size);
@@ -41,8 +45,24 @@ pub(crate) fn tell<R: Runtime + AllocGlobal, F: Read + Drop>(
         CertificateCommand::Answer => {
             answer_on(alloc, words, opened, bounds, &mut source, &mut out)
         }
-        CertificateCommand::Why => why_on(alloc, words, opened, bounds, &mut source, &mut out),
-        CertificateCommand::Page => page_on(alloc, words, opened, bounds, &mut source, &mut out),
+        CertificateCommand::Why => why_on(
+            alloc,
+            words,
+            opened,
+            &tariffs,
+            bounds,
+            &mut source,
+            &mut out,
+        ),
+        CertificateCommand::Page => page_on(
+            alloc,
+            words,
+            opened,
+            &tariffs,
+            bounds,
+            &mut source,
+            &mut out,
+        ),
     };
     source.end();
     answer

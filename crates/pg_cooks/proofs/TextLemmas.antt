@@ -61,10 +61,3 @@ within_grows o n number words w x y z is same said first second third =
     subst (λ (m : Option ℕ). Appends w z (within_text m)) (sym is)
     (Appends-trans w x z (codes "none with at most ") (decimal n ++ foreign_text n) first
     (Appends-trans x y z (decimal n) (foreign_text n) (subst (λ (t : List ℕ). Appends x y t) same second) (subst (λ (t : List ℕ). Appends y z t) said third)))
-
--- the lines of a game that was found, as those of an answer
-pub answer_grows : (P : List ℕ → Type 0) (what : List ℕ) (game items : List Move) (a b c : Option (List ℕ)) → game ≡ items → ((x : List ℕ) → IsFoundText what items x → P x) → Appends a b what
-    → AddsSome (IsEndText game) b c → AddsSome P a c
-answer_grows P what game items a b c same says first rest =
-    let (text, is, grows) = found_grows what game a b c first rest in
-    (text, says text (subst (λ (x : List Move). IsFoundText what x text) same is), grows)

@@ -23,7 +23,7 @@ use Rattle.pg_cooks.specs.Unsound.{IsUnsound, HasNoAnswer, IsStandingTrue}
 
 -- ---- the answer
 -- another game: a solution that the list does not have; a shorter one: it has fewer plies,
--- and is a solution for so many; else what is told of the listed games is what they say
+-- and is a solution for that number of them; else what is told of the listed games is what they say
 abbrev pub IsCookAnswer : Placement → ℕ → List (List Move) → CookAnswer → Type 0
 IsCookAnswer d n games (Cook game) = IsSolution d n game.items × ¬ Contains games game.items
 IsCookAnswer d n games (Shorter game) = (length game.items < n) × IsSolution d (length game.items) game.items
@@ -57,6 +57,14 @@ IsEndText game text = (line : List ℕ) × IsMovetext game line × (text ≡ lin
 abbrev pub IsFoundText : List ℕ → List Move → List ℕ → Type 0
 IsFoundText what game text = (rest : List ℕ) × IsEndText game rest × (text ≡ what ++ rest)
 
+-- those of another game, and of a shorter one
+abbrev pub IsCookText : List Move → List ℕ → Type 0
+IsCookText game text = IsFoundText (line_text (codes "another game")) game text
+
+abbrev pub IsShorterText : List Move → List ℕ → Type 0
+IsShorterText game text =
+    IsFoundText (codes "a game of " ++ (decimal (length game) ++ line_text (codes " plies"))) game text
+
 -- the words behind a number of foreign moves
 abbrev pub foreign_text : ℕ → List ℕ
 foreign_text n = cond (eqb n 1) (codes " foreign move") (codes " foreign moves")
@@ -80,9 +88,8 @@ none_text foreign end NoneGiven = unfound_text foreign end
 
 -- the lines of an answer
 abbrev pub IsAnswerText : CookAnswer → List ℕ → Type 0
-IsAnswerText (Cook game) text = IsFoundText (line_text (codes "another game")) game.items text
-IsAnswerText (Shorter game) text =
-    IsFoundText (codes "a game of " ++ (decimal (length game.items) ++ line_text (codes " plies"))) game.items text
+IsAnswerText (Cook game) text = IsCookText game.items text
+IsAnswerText (Shorter game) text = IsShorterText game.items text
 IsAnswerText (NotFound foreign nodes end standing) text = text ≡ none_text foreign end standing
 
 -- the report of a diagram, a length in plies, games that are known and what was found beside them

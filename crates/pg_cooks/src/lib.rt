@@ -14,6 +14,7 @@ pub use finding::{CookAnswer, cooks};
 pub use laws::{not_sound_is_true, shorter_is_a_cook, two_are_a_cook, unlisted_is_a_cook};
 pub use run::{run_cooks, run_games, standing_on, write_solutions};
 pub use standing::Standing;
+pub use writing::{write_cook, write_known, write_shorter, write_standing};
 
 // What a caller needs of the search.
 pub use pg_searcher::{LedEnd, LedLimits, LedProgress};

@@ -4,7 +4,7 @@ ghost use Rattle.pg_certificate.specs.Pushing.{Adds, AddsSome, Pushes};
 ghost use Rattle.pg_san.specs.Games.{IsFromArray};
 ghost use Rattle.pg_texts.specs.Report.{line_text};
 ghost use Rattle.pg_cooks.specs.Standing.{IsKnownText, IsStanding, IsGamesReport};
-ghost use Rattle.pg_cooks.specs.Cooks.{IsAnswerText, IsCooksReport, IsEndText, IsTold};
+ghost use Rattle.pg_cooks.specs.Cooks.{IsAnswerText, IsCookText, IsCooksReport, IsEndText, IsShorterText, IsTold};
 ghost use Rattle.pg_cooks.specs.Cooks.{foreign_text, none_text, unfound_text, within_text};
 
 use crate::finding::CookAnswer;
@@ -17,8 +17,12 @@ use pg_san::Games;
 use pg_searcher::LedEnd;
 use pg_texts::{write_game, write_games, write_head, write_line};
 
-// Appends the lines that say what was asked, and the games that are known.
-fn write_known<W: Sink>(
+/// Appends the lines that say what was asked, and the games that are known, each ended by a line feed: `diagram ` and
+/// the placement; `length ` and the length; `games ` and their number; the movetext of each game, in canonical order.
+///
+/// # Errors
+/// `Refused` where the sink has failed.
+pub fn write_known<W: Sink>(
     diagram: &Diagram,
     length: Length,
     games: &Games,
@@ -30,8 +34,12 @@ fn write_known<W: Sink>(
     write_games(games, out)
 }
 
-// Appends the report of games that are known; what they say.
-pub(crate) fn write_standing<W: Sink>(
+/// Appends the report of games that are known: these lines, and what the games say, `not sound`, `at least one game` or
+/// `no game given`; which of these it is. Nothing is tested here.
+///
+/// # Errors
+/// `Refused` where the sink has failed.
+pub fn write_standing<W: Sink>(
     diagram: &Diagram,
     length: Length,
     games: &Games,
@@ -127,20 +135,40 @@ fn write_found<W: Sink>(game: &[Move], out: &mut W) -> Result<(), Refused>
     write_line("not sound", out)
 }
 
+/// Appends the lines of a game from the initial array that is another solution: `another game`, its movetext and `not
+/// sound`, each ended by a line feed. Nothing is tested here.
+///
+/// # Errors
+/// `Refused` where the sink has failed.
+pub fn write_cook<W: Sink>(game: &[Move], out: &mut W) -> Result<(), Refused>
+    requires { IsFromArray game.now }
+    ensures { Pushes W.held W.has_failed (AddsSome (IsCookText game.now)) out.old out.new result }
+{
+    write_line("another game", out)?;
+    write_found(game, out)
+}
+
+/// Appends the lines of a game from the initial array that is shorter than stated: `a game of `, its number of plies
+/// and ` plies`, its movetext and `not sound`, each ended by a line feed. Nothing is tested here.
+///
+/// # Errors
+/// `Refused` where the sink has failed.
+pub fn write_shorter<W: Sink>(game: &[Move], out: &mut W) -> Result<(), Refused>
+    requires { IsFromArray game.now }
+    ensures { Pushes W.held W.has_failed (AddsSome (IsShorterText game.now)) out.old out.new result }
+{
+    write_numbered("a game of ", game.len(), " plies", out)?;
+    write_found(game, out)
+}
+
 // Appends the lines of what was found beside games that are known.
 fn write_answer<W: Sink>(answer: &CookAnswer, out: &mut W) -> Result<(), Refused>
     requires { IsTold answer.now }
     ensures { Pushes W.held W.has_failed (AddsSome (IsAnswerText answer.now)) out.old out.new result }
 {
     match answer {
-        CookAnswer::Cook(game) => {
-            write_line("another game", out)?;
-            write_found(game.as_slice(), out)
-        }
-        CookAnswer::Shorter(game) => {
-            write_numbered("a game of ", game.len(), " plies", out)?;
-            write_found(game.as_slice(), out)
-        }
+        CookAnswer::Cook(game) => write_cook(game.as_slice(), out),
+        CookAnswer::Shorter(game) => write_shorter(game.as_slice(), out),
         CookAnswer::NotFound {
             foreign,
             nodes: _,

@@ -9,9 +9,9 @@ use thiserror::Error;
 pub struct DrawnLimits {
     /// What numbers are drawn by: with one seed all runs are the same.
     pub seed: u64,
-    /// So many starts are made at most.
+    /// The most starts that are made.
     pub starts: u32,
-    /// So many nodes are visited at most in each start.
+    /// The most nodes that are visited in each start.
     pub max_nodes: u64,
 }
 

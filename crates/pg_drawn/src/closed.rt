@@ -7,7 +7,7 @@ use std::alloc::{AllocError, Global};
 // How many slots there are, a power of two: 16 MB.
 const SLOTS: usize = 1_048_576;
 
-// A key stands in one of so many slots from its place on.
+// A key stands in one of this number of slots, from its place on.
 const BUCKET_SLOTS: usize = 4;
 
 // A slot: a key, 0 for none, and how many plies are left at the node.
@@ -62,7 +62,7 @@ impl Closed {
         }
     }
 
-    // Enters a node with so many plies left by its key, which is not 0.
+    // Enters a node with `left` plies left by its key, which is not 0.
     pub(crate) fn put(&mut self, key: u64, left: u8) {
         let at = place_of(&self.slots, key);
         if let Some(slot) = self.slots.get_mut(at) {

@@ -1,5 +1,5 @@
 //! A search for two games of a bare diagram: it goes into the tree of the stated length alone, children in the order of
-//! the least travel that is left, with ties by drawn numbers, and starts anew after so many nodes. Nothing that it
+//! the least travel that is left, with ties by drawn numbers, and starts anew after a number of nodes. Nothing that it
 //! answers is trusted: a game counts when it has been tested.
 #![tactic(auto)]
 

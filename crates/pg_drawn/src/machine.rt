@@ -13,7 +13,7 @@ use rand_core::SeedableRng;
 use rand_xoshiro::SplitMix64;
 use std::alloc::{AllocError, Global};
 
-// What is searched for: games of so many plies to a diagram. Of the bounds the first by journeys is asked of nodes.
+// What is searched for: games of `plies` plies to a diagram. Of the bounds the first by journeys is asked of nodes.
 #[derive(Drop)]
 pub(crate) struct Question<'a> {
     pub(crate) diagram: &'a Diagram,
@@ -105,7 +105,7 @@ impl Machine {
         }
     }
 
-    // Nothing is open, and so many nodes may be visited.
+    // Nothing is open, and `nodes` nodes may be visited.
     pub(crate) fn restart(&mut self, nodes: u64) {
         self.open.clear();
         self.children.clear();

@@ -11,7 +11,7 @@ use pg_position::{Move, Position};
 use pg_searcher::SearchProgress;
 use rand_core::Rng;
 
-// The node after a move of the topmost open one, with so many plies left, is judged, and kept where no cheap bound
+// The node after a move of the topmost open one, with `left` plies left, is judged, and kept where no cheap bound
 // excludes it.
 fn put_child<P: SearchProgress>(
     question: &Question,
@@ -37,7 +37,7 @@ fn put_child<P: SearchProgress>(
     push(&mut machine.children, child)
 }
 
-// A node opens, with so many plies left after a move of it: its children are judged.
+// A node opens, with `left` plies left after a move of it: its children are judged.
 fn open<P: SearchProgress>(
     question: &Question,
     machine: &mut Machine,
@@ -78,7 +78,7 @@ fn end<P: SearchProgress>(
     Ok(())
 }
 
-// Goes into a node with so many plies left, at least two. It is on the diagram, or one ply before it, so that a game is
+// Goes into a node with `left` plies left, at least two. It is on the diagram, or one ply before it, so that a game is
 // shorter than stated; or it has closed; or journeys exclude it; or it opens. With two plies left it is looked at once,
 // and closed.
 pub(crate) fn enter<P: SearchProgress>(

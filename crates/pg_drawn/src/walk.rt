@@ -6,7 +6,7 @@ use crate::opening::enter;
 use pg_position::Position;
 use pg_searcher::SearchProgress;
 
-// The topmost open node closes, all of whose children have, with so many plies left.
+// The topmost open node closes, all of whose children have, with `left` plies left.
 fn close(machine: &mut Machine, left: u8) {
     if let Some(top) = machine.open.pop() {
         machine.closed.put(top.key, left);
@@ -31,8 +31,8 @@ fn turn<P: SearchProgress>(
     }
 }
 
-// A start, from the initial array, over so many nodes at most. The number told to `watch` is that of the nodes that may
-// still be visited, in this start and so many later.
+// A start, from the initial array, over `nodes` nodes at most. The number told to `watch` is that of the nodes that may
+// still be visited, in this start and the later ones: these have `later`.
 pub(crate) fn start<P: SearchProgress>(
     question: &Question,
     machine: &mut Machine,

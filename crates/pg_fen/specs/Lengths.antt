@@ -1,6 +1,6 @@
 -- The length of a game as text: whole moves, and a half move more as `.5`.
 --     length_of text     what a text reads as: its number of plies, or why it is no length
---     length_text plies  what so many plies are written as
+--     length_text plies  what this number of plies is written as
 --     IsLength text n    the grammar: the text spells n plies
 use Rattle.std.specs.Prelude.{◌≡◌, ◌≢◌, ℕ, ◌+◌, ◌*◌, ◌/◌, ◌%◌, ◌==◌, ◌⊎◌, List, [], ◌++◌, take, drop, Option, Some, None, Result, Ok, Err, if◌then◌else◌, nat_lt, codes, IsTrue}
 use Rattle.std.specs.Str.{bytes_eq, all_ascii_digits}

@@ -1,5 +1,5 @@
 -- The placement of men as text (the PGN standard, section 16.1.3.1): eight ranks from 8 to 1 with a slash between two
--- of them; a rank has, from file a to file h, a man's letter for the man and a digit 1 to 8 for so many empty
+-- of them; a rank has, from file a to file h, a man's letter for the man and a digit 1 to 8 for that number of empty
 -- squares.
 --     read_placement text   what a text reads as: a placement, or the first fault
 --     placement_text b      what a placement is written as
@@ -19,7 +19,7 @@ use Rattle.pg_fen.specs.declared.fault.FenFault.TheVariants.{Rank, Letter, Kings
 use Rattle.pg_fen.specs.Letters.{man_of, letter_of}
 
 -- ---- ranks and their widths
--- a digit 1 to 8, which stands for so many empty squares
+-- a digit 1 to 8, which stands for that number of empty squares
 abbrev pub is_run : ℕ → Bool
 is_run b = nat_le (code "1") b && nat_le b (code "8")
 
@@ -107,12 +107,12 @@ read_placement text =
     else Ok (placed text))))
 
 -- ---- writing
--- the digit for so many empty squares, and nothing for none
+-- the digit for n empty squares, and nothing for none
 abbrev pub run_text : ℕ → List ℕ
 run_text zero = []
 run_text (suc n) = (code "1" + n) ∷ []
 
--- the text of some squares of a rank that stand behind so many empty ones
+-- the text of some squares of a rank that stand behind `empty` empty ones
 abbrev pub cells_text : ℕ → List (Option Man) → List ℕ
 cells_text empty [] = run_text empty
 cells_text empty (None ∷ cells) = cells_text (empty + 1) cells

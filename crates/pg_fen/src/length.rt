@@ -71,7 +71,7 @@ impl Length {
         }
     }
 
-    /// The length of so many plies; none above 128.
+    /// The length of `plies` plies; none above 128.
     pub fn from_plies(plies: u8) -> Option<Length>
         ensures valid { IsSome result ↔ (plies ≤ 128) }
         ensures value { IfSome result (λ length. length ≡ plies) }

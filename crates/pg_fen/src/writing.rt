@@ -19,7 +19,7 @@ fn row(board: &Board, n: u8) -> [Option<Man>; 8]
     cells
 }
 
-// Appends the digit for so many empty squares, and nothing for none.
+// Appends the digit for `empty` empty squares, and nothing for none.
 fn put_run<const CAP: usize>(text: &mut ArrayString<CAP>, empty: u8)
     requires few { empty ≤ 8 }
     requires room { 0 < empty → length text.old.bytes < CAP }

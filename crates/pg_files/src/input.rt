@@ -152,7 +152,7 @@ pub fn read_all<R: Read>(alloc: Global, reader: &mut R) -> Result<Vec<u8>, FileF
     Err(FileFault::Read)
 }
 
-/// The next bytes of a reader, so many; fewer only where no more are left. A fault is not tried again.
+/// The next `most` bytes of a reader; fewer only where no more are left. A fault is not tried again.
 ///
 /// # Errors
 /// `Read` where a read has failed, or where they are more than 16,777,216. `Memory` where a growth is refused.

@@ -8,7 +8,7 @@ use std::io::ErrorKind;
 use std::rt::{Env, Files};
 use std::{env, fs};
 
-// So many names are tried for it.
+// The most names that are tried for it.
 const NAMES: u32 = 1000;
 
 /// A new file to be written and read again, in the folder for files that do not last (`TMPDIR`, or else `/tmp`). Its

@@ -17,10 +17,10 @@ use std::os::unix::fs::{MetadataExt, PermissionsExt};
 use std::rt::Files;
 use std::{fs, io};
 
-// So many names are tried for a file beside its place.
+// The most names that are tried for a file beside its place.
 const NAMES: u32 = 1000;
 
-// A draft has so many bytes of its file's name at most, so that its own name, which is a dot, those bytes and
+// The most bytes that a draft has of its file's name, so that its own name, which is a dot, those bytes and
 // `.pg-part-999`, has 255, the most that Linux takes.
 const MOST_OF_NAME: usize = 242;
 

@@ -11,6 +11,7 @@ use pg_moves::LegalMoves;
 use pg_position::{Move, Position};
 use pg_price_lists::Prices;
 use pg_sentences::{Ending, Tally, first_code};
+use pg_tolls::Tariff;
 use std::alloc::Global;
 
 // A line of moves from the initial array, with the problem's diagram and plies, and the positions that it leads
@@ -35,10 +36,13 @@ struct Whereabouts {
 
 // What a check meets along a line: what the children are of the nodes on it that are open, the root first, and of those
 // that have closed, the last one first; what ends the line, if something does; and the named nodes that the record
-// which ends it may cite, of the same future and plies as a node on the line, as far as there was room for them.
+// which ends it may cite, of the same future and plies as a node on the line, as far as there was room for them. The
+// tariffs are those that stand before the certificate.
 #[derive(Drop)]
 pub(crate) struct Along<'a> {
     pub(crate) line: Line<'a>,
+    pub(crate) alloc: Global,
+    pub(crate) tariffs: &'a [Tariff],
     place: Whereabouts,
     open: ArrayVec<Tally, 128>,
     pub(crate) tallies: ArrayVec<Tally, 128>,
@@ -63,7 +67,12 @@ fn positions_along(alloc: Global, moves: &[Move]) -> Vec<Position> {
 
 impl<'a> Along<'a> {
     // What is met before a check. What is kept takes its room from `alloc`.
-    pub(crate) fn new(alloc: Global, problem: &'a Problem, moves: &'a [Move]) -> Along<'a> {
+    pub(crate) fn new(
+        alloc: Global,
+        problem: &'a Problem,
+        moves: &'a [Move],
+        tariffs: &'a [Tariff],
+    ) -> Along<'a> {
         Along {
             line: Line {
                 diagram: &problem.diagram,
@@ -71,6 +80,8 @@ impl<'a> Along<'a> {
                 moves,
                 positions: positions_along(alloc, moves),
             },
+            alloc,
+            tariffs,
             place: Whereabouts {
                 path: ArrayVec::new(),
                 games: 0,
@@ -129,8 +140,9 @@ fn enter_child(along: &mut Along, m: &Move, left: u8, said: &Bare, prices: &Pric
     if along.open.len() != ply {
         return;
     }
+    let tariffs = along.tariffs.len();
     if let Some(tally) = along.open.last_mut() {
-        tally.count(said);
+        tally.count(said, tariffs);
     }
     if is_of_line(&along.line, ply, m) {
         enter(along, said, prices);
@@ -143,10 +155,11 @@ fn enter_leaf(along: &mut Along, position: &Position, m: &Move) {
         return;
     };
     let hit = along.line.diagram.matches(&there);
+    let plies = usize::from(along.line.plies);
     if let Some(tally) = along.open.last_mut() {
         tally.count_leaf(hit);
     }
-    if is_of_line(&along.line, usize::from(along.line.plies), m) {
+    if is_of_line(&along.line, plies, m) {
         along.ending = Some(Ending::Leaf(hit));
     }
 }

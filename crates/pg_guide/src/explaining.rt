@@ -17,6 +17,7 @@ use pg_certificate::{Record, Refused, Sink, Source};
 use pg_checker::{Opened, answer_opened};
 use pg_san::{Games, read_games};
 use pg_sentences::Ending;
+use pg_tolls::Tariff;
 use std::alloc::Global;
 
 // The game that a text is, as the one game of a list.
@@ -59,6 +60,8 @@ fn tell<W: Sink>(along: &Along, out: &mut W) -> Result<(), WhyFault>
         tallies: along.tallies.as_slice(),
         ending: &along.ending,
         cited,
+        tariffs: along.tariffs,
+        alloc: along.alloc,
     };
     match write_found(&found, out) {
         Ok(()) => Ok(()),
@@ -85,13 +88,15 @@ fn tell_right<W: Sink>(along: &Along, out: &mut W) -> Result<(), WhyFault>
 
 /// Explains what an opened certificate says along a line of moves, and writes that: a line for each ply to where the
 /// line or the proof ends, and last `the certificate is right`. `moves` are those of one game from the initial array,
-/// in any spelling that a list of games reads; `-` for none. docs/FORMATS.md has the lines; no clause speaks of what
-/// they say, but of the last. Ok means that some list of games is the exact answer to the problem of the header,
-/// that the certificate proves it, and that the last line stands. Nothing is written before the check has said yes, and
-/// with a refusal other than `Write` nothing at all.
+/// in any spelling that a list of games reads; `-` for none. `tariffs` are those of the bounds with the codes from
+/// `Tolls::FIRST_CODE` on, in their order, for the words of their cuts. docs/FORMATS.md has the lines; no clause speaks
+/// of what they say, but of the last. Ok means that some list of games is the exact answer to the problem of the
+/// header, that the certificate proves it, and that the last line stands. Nothing is written before the check has said
+/// yes, and with a refusal other than `Write` nothing at all.
 ///
 /// The certificate is read once: `source` is the one that it was opened from, as that call left it. The games, the
-/// named nodes and what is met along the line take their room from `alloc`; nothing else takes memory.
+/// named nodes, what is met along the line, and the tables of a tariff that cuts its end take their room from `alloc`;
+/// nothing else takes memory.
 ///
 /// # Errors
 /// In this order: `Games` where the moves are refused as a list of games; `Moves` where they are not one game; `Answer`
@@ -101,6 +106,7 @@ pub fn why<R: Source, W: Sink>(
     alloc: Global,
     opened: &mut Opened,
     moves: &str,
+    tariffs: &[Tariff],
     bounds: &[Box<dyn Bound>],
     source: &mut R,
     out: &mut W,
@@ -131,7 +137,7 @@ pub fn why<R: Source, W: Sink>(
     let Some(line) = games.game(0) else {
         unreachable!()
     };
-    let mut along = Along::new(alloc, &problem, line);
+    let mut along = Along::new(alloc, &problem, line, tariffs);
     match answer_opened(
         alloc,
         opened,

@@ -4,6 +4,8 @@ use arrayvec::ArrayVec;
 use pg_fen::Diagram;
 use pg_position::Move;
 use pg_sentences::{Ending, Tally};
+use pg_tolls::Tariff;
+use std::alloc::Global;
 
 // A named node that a reference may cite: its number, and the line that leads there.
 #[derive(Drop)]
@@ -14,7 +16,7 @@ pub(crate) struct Cited {
 
 // What stands along a line: the problem's diagram and plies, the moves from the initial array, the expanded nodes
 // that the line leads through with the last one first, what ends the line, if something does, and the node that is
-// cited there.
+// cited there; the tariffs that stand before the certificate, and what their tables are taken from.
 #[derive(Clone, Copy)]
 pub(crate) struct Found<'a> {
     pub(crate) diagram: &'a Diagram,
@@ -23,4 +25,6 @@ pub(crate) struct Found<'a> {
     pub(crate) tallies: &'a [Tally],
     pub(crate) ending: &'a Option<Ending>,
     pub(crate) cited: Option<&'a Cited>,
+    pub(crate) tariffs: &'a [Tariff],
+    pub(crate) alloc: Global,
 }

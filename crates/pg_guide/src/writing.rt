@@ -6,7 +6,7 @@ use arrayvec::ArrayVec;
 use pg_certificate::{Refused, Sink};
 use pg_position::{Move, Position};
 use pg_sentences::phrases::{AFTER, AS, AT_THE_START, BARREN};
-use pg_sentences::{Node, Sentence, Tally, ended, expanded};
+use pg_sentences::{GrowingFares, Node, Sentence, Tally, ended, expanded};
 use pg_texts::write_movetext;
 
 // A line, with room for the movetext of two games of 128 plies and for what is said.
@@ -103,7 +103,10 @@ fn said_after(found: &Found, plies: usize) -> Sentence {
         return expanded(&node, tally);
     }
     match found.ending {
-        Some(ending) => ended(&node, ending),
+        Some(ending) => {
+            let mut fares = GrowingFares::new(found.alloc, found.diagram, found.tariffs);
+            ended(&node, ending, &mut fares)
+        }
         None => Sentence::new(),
     }
 }

@@ -30,7 +30,7 @@ at_front [] (suc k) line more e = absurd cc
 at_front (p ∷ ps) zero line more e = (let is : p ≡ line = cc in ap Some is)
 at_front (p ∷ ps) (suc k) line more e = at_front ps k line more e
 
--- behind so many lines stands the next one
+-- behind k lines stands the next one
 pub line_next : (text : List ℕ) (left more : List (List ℕ)) (line : List ℕ) (k : ℕ) → drop k (pieces text) ≡ left → left ≡ line ∷ more → IsLine text (k + 1) line
 line_next text left more line k e f =
     let before : k ≡ k + 1 - 1 = omega arith in

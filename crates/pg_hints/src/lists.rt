@@ -12,10 +12,10 @@ use std::fmt;
 use std::fmt::Write;
 use strsim::levenshtein;
 
-// So many legal moves are named at most.
+// The most legal moves that are named.
 const NAMED: usize = 3;
 
-// So many bytes of a word are shown and compared at most.
+// The most bytes of a word that are shown and compared.
 const SHOWN: usize = 24;
 
 // A word as it is shown. Behind it a line has room for the longest moves.

@@ -3,7 +3,7 @@
 use crate::strangers::is_digits;
 use pg_fen::Length;
 
-// The length of so many moves with a dot behind them, and this behind the dot.
+// The length of `moves` moves with a dot behind them, and `half` behind the dot.
 fn with_dot(moves: &str, half: &str) -> Option<Length> {
     if !is_digits(moves) {
         return None;
@@ -16,7 +16,7 @@ fn with_dot(moves: &str, half: &str) -> Option<Length> {
     }
 }
 
-// The length of so many plies; none of more than 128.
+// The length of `number` plies; none of more than 128.
 fn of_plies(number: &str) -> Option<Length> {
     match number.parse::<u8>() {
         Ok(plies) => Length::from_plies(plies),

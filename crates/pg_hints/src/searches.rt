@@ -5,7 +5,7 @@ use arrayvec::ArrayString;
 use pg_fen::Length;
 use std::fmt::Write;
 
-// So many plies as a length in moves; nothing beyond the longest length.
+// A number of plies as a length in moves; nothing beyond the longest length.
 fn moves_of(plies: u8) -> ArrayString<4> {
     match Length::from_plies(plies) {
         Some(length) => length.write(),
@@ -38,7 +38,7 @@ pub fn on_known(games: usize) -> Hint {
     hint
 }
 
-/// The length to ask for, where a game of so many plies was met.
+/// The length to ask for, where a game of `plies` plies was met.
 pub fn on_length(plies: u8) -> Hint {
     let mut hint = Hint::new();
     let _ = write!(hint, "try the length {}", moves_of(plies).as_str());

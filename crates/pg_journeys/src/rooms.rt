@@ -14,7 +14,7 @@ use pg_position::Wing;
 // are the men of the diagram, and last to be captured.
 pub(crate) type Rooms = [[u8; 17]; 16];
 
-// The room of a man at a column; 255 for none. So many counts pay for all paths.
+// The room of a man at a column; 255 for none. All paths together may count `paid` at most.
 fn room(costs: &Costs, least: &[[u16; 16]; 16], paid: u16, i: usize, j: usize) -> u8
     requires size { costs.now.size ≤ 16 }
     requires least { AreLeastWith costs.now least.now costs.now.size }

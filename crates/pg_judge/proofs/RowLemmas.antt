@@ -12,6 +12,8 @@ use Rattle.pg_checker.specs.Answer.{IsSolution}
 use Rattle.pg_fen.specs.Lengths.{length_text}
 use Rattle.pg_cooks.specs.Cooks.{foreign_text}
 use Rattle.pg_texts.specs.Movetext.{AddsLongest, IsLongestGame, IsMovetext}
+use Rattle.pg_cooks.specs.Standing.{IsKnownText}
+use Rattle.pg_judge.specs.Findings.{IsBeside}
 use Rattle.pg_judge.specs.Ruling.{IsFinding, IsGiven}
 use Rattle.pg_judge.specs.Rows.{ArePair, AreShown, IsDetail, IsEvidenceText, IsNth, IsRowOf, IsTold, IsWritable, IsWritten, below_text, cooks_text, head_text}
 use Rattle.pg_judge.specs.declared.entry.Entry.{Entry}
@@ -120,3 +122,14 @@ cooks_grow o n m said a b is same words h =
     subst (λ (x : Option ℕ). Appends a b (cooks_text x)) (sym is)
     (subst (λ (t : List ℕ). Appends a b (codes "; no cook with at most " ++ (decimal n ++ t))) words
     (subst (λ (k : ℕ). Appends a b (codes "; no cook with at most " ++ (decimal k ++ said))) same h))
+
+-- ---- reports
+-- the author's games, and what is found behind them
+pub beside : (d : Placement) (n : ℕ) (author : List (List Move)) (Is : List ℕ → Type 0) (a b c : Option (List ℕ)) → AddsSome (IsKnownText d n author) a b → AddsSome Is b c
+    → AddsSome (IsBeside d n author Is) a c
+beside d n author Is a b c (front, known, first) (last, is, second) =
+    (front ++ last, (front, last, known, is, refl), Appends-trans a b c front last first second)
+
+pub beside_one : (d : Placement) (n : ℕ) (author : List (List Move)) (line : List ℕ) (a b c : Option (List ℕ)) → AddsSome (IsKnownText d n author) a b → Appends b c line
+    → AddsSome (IsBeside d n author (λ (last : List ℕ). last ≡ line)) a c
+beside_one d n author line a b c first second = beside d n author (λ (last : List ℕ). last ≡ line) a b c first (line, refl, second)

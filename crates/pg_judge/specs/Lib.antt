@@ -1,4 +1,5 @@
 pub mod Entries
+pub mod Findings
 pub mod Old
 pub mod Ruling
 pub mod Rows

@@ -45,6 +45,7 @@ abbrev pub effort_text : Effort → List ℕ
 effort_text effort.Cooks = codes "cooks, "
 effort_text effort.Search = codes "search, "
 effort_text effort.Journeys = codes "journeys, "
+effort_text effort.Drawn = codes "drawn, "
 effort_text effort.Tariffs = codes "tariffs, "
 effort_text effort.Tolls = codes "tolls, "
 
@@ -63,6 +64,7 @@ old_text stood.OfAnother = codes ", certificate of another problem kept"
 -- why nothing is settled
 abbrev pub reason_text : Reason → List ℕ
 reason_text reason.Nodes = codes "limit reached"
+reason_text reason.Time = codes "time limit reached"
 reason_text reason.Memory = codes "out of memory"
 reason_text reason.Scratch = codes "certificate not written"
 reason_text reason.Bytes = codes "certificate limit reached"

@@ -3,14 +3,15 @@ ghost use Rattle.std.specs.Prelude.{◌≤◌, IsTrue, IfOk, length};
 ghost use Rattle.pg_checker.specs.Answer.{AreSolutions};
 ghost use Rattle.pg_judge.specs.Ruling.{IsFindingOf};
 
+use crate::drawing::draw;
 use crate::entry::Entry;
 use crate::given::{Given, given_to};
 use crate::leading::lead;
-use crate::limits::{Limits, MOST, next_limit};
+use crate::limits::Limits;
 use crate::progress::{Effort, JudgeProgress};
-use crate::ruling::{Evidence, Finding, Known, Reason, Ruling};
+use crate::ruling::{Evidence, Finding, Known, Means, Reason, Ruling};
 use crate::scratch::Scratch;
-use crate::searching::{Attempt, Question, Stop, attempt_once};
+use crate::searching::{Attempt, Question, Stop, attempt_once, stopped};
 use pg_captures::Bound;
 use pg_checker::Problem;
 use pg_cooks::{Standing, standing_on};
@@ -18,7 +19,7 @@ use pg_san::Games;
 use std::alloc::Global;
 
 // The author's games, where they solve the problem; those for which there is no room are left out.
-pub(crate) fn author_of(alloc: Global, entry: &Entry<'_>, given: Given) -> Games {
+fn author_of(alloc: Global, entry: &Entry<'_>, given: Given) -> Games {
     let mut games = Games::new(alloc);
     if given != Given::Solves {
         return games;
@@ -31,8 +32,8 @@ pub(crate) fn author_of(alloc: Global, entry: &Entry<'_>, given: Given) -> Games
     games
 }
 
-// One search, and where it gives up another that cuts by journeys too, if that is wanted.
-fn search_once<S: Scratch, P: JudgeProgress>(
+// A search of all games, and where that gives up one that cuts by journeys too.
+fn search_twice<S: Scratch, P: JudgeProgress>(
     alloc: Global,
     question: &Question<'_>,
     limits: Limits,
@@ -42,57 +43,23 @@ fn search_once<S: Scratch, P: JudgeProgress>(
 ) -> Result<Ruling, Stop>
     ensures { IfOk result (λ r. IsFindingOf question.now.entry.now r.finding) }
 {
-    let limit = limits.max_nodes;
     let bounds = question.bounds;
-    let first = Attempt::alone(Effort::Search, limit, bounds);
+    let first = Attempt::alone(Effort::Search, limits.first(), limits, bounds);
     match attempt_once(alloc, question, &first, scratch, games, watch) {
         Ok(ruling) => return Ok(ruling),
         Err(stop) => {
-            if !limits.by_journeys || games.len() >= 2 || stop.known.reason != Reason::Nodes {
+            if !may_go_on(&stop, limits, games, watch) {
                 return Err(stop);
             }
         }
     }
-    let second = Attempt::alone(Effort::Journeys, limit, bounds);
+    let second = Attempt::alone(Effort::Journeys, limits.by_journeys(), limits, bounds);
     attempt_once(alloc, question, &second, scratch, games, watch)
 }
 
-// Whether a search with a greater limit may follow one that gave up: not where two games are known.
-fn may_go_on<P: JudgeProgress>(
-    now: Limits,
-    limits: Limits,
-    games: &Games,
-    stop: &Stop,
-    watch: &mut P,
-) -> bool {
-    let is_last = now.max_nodes >= limits.max_nodes || games.len() >= 2;
-    !is_last && stop.known.reason == Reason::Nodes && watch.goes_on()
-}
-
-// Searches with limits that grow, up to the last one, or till two games are known.
-fn search_on<S: Scratch, P: JudgeProgress>(
-    alloc: Global,
-    question: &Question<'_>,
-    limits: Limits,
-    scratch: &mut S,
-    games: &mut Games,
-    watch: &mut P,
-) -> Result<Ruling, Stop>
-    ensures { IfOk result (λ r. IsFindingOf question.now.entry.now r.finding) }
-{
-    let mut now = limits.first();
-    for _ in 0..MOST {
-        match search_once(alloc, question, now, scratch, games, watch) {
-            Ok(ruling) => return Ok(ruling),
-            Err(stop) => {
-                if !may_go_on(now, limits, games, &stop, watch) {
-                    return Err(stop);
-                }
-            }
-        }
-        now.max_nodes = next_limit(now.max_nodes, limits.max_nodes);
-    }
-    search_once(alloc, question, now, scratch, games, watch)
+// Whether another search may follow one that gave up.
+fn may_go_on<P: JudgeProgress>(stop: &Stop, limits: Limits, games: &Games, watch: &mut P) -> bool {
+    stop.known.reason == Reason::Nodes && limits.search_again(games.len()) && watch.goes_on()
 }
 
 // Whether the games are two solutions or more.
@@ -116,39 +83,76 @@ fn found_at_last(entry: &Entry<'_>, games: Games, known: Known) -> Finding
     }
 }
 
-// The same, with how far the search for cooks came, and the search that came last.
-pub(crate) fn ended(entry: &Entry<'_>, games: Games, stop: Stop, foreign: Option<u8>) -> Ruling
-    ensures { IsFindingOf entry.now result.finding }
-{
-    let Stop { known, means } = stop;
-    let Known {
-        games: met,
-        below,
-        foreign: _,
-        reason,
-    } = known;
-    let known = Known {
-        games: met,
-        below,
-        foreign,
-        reason,
-    };
-    Ruling {
-        finding: found_at_last(entry, games, known),
-        means,
+/// What is known of a problem that its searches have not settled so far.
+#[derive(Drop)]
+pub struct Pending {
+    /// The author's games, where they solve the problem, and those that were met.
+    pub games: Games,
+    // How far the last search came.
+    pub(crate) stop: Stop,
+    // How far a search for cooks came.
+    pub(crate) foreign: Option<u8>,
+}
+
+impl Pending {
+    /// What is known before any search: games, which are tested where they count, and with how many foreign moves at
+    /// most a search for cooks went through all games, if it came so far.
+    pub fn new(games: Games, foreign: Option<u8>) -> Pending {
+        let means = Means::Search(Effort::Search, 0);
+        let stop = stopped(Reason::Nodes, &games, means, 0);
+        Pending {
+            games,
+            stop,
+            foreign,
+        }
+    }
+
+    /// Whether searches with more nodes may follow: not where `limits` allow none, the last search ended for another
+    /// reason than nodes, enough games are known, or `watch` does not go on.
+    pub fn goes_on<P: JudgeProgress>(&self, limits: Limits, watch: &mut P) -> bool {
+        limits.go_on() && may_go_on(&self.stop, limits, &self.games, watch)
+    }
+
+    /// What is found where no search follows: that the problem is not sound, where two games are known; they are
+    /// tested. Else it is not settled, which claims nothing.
+    pub fn ruling(self, entry: &Entry<'_>) -> Ruling
+        ensures { IsFindingOf entry.now result.finding }
+    {
+        let Pending {
+            games,
+            stop,
+            foreign,
+        } = self;
+        let Stop { known, means } = stop;
+        let known = Known {
+            games: games.len(),
+            below: known.below,
+            foreign,
+            reason: known.reason,
+        };
+        Ruling {
+            finding: found_at_last(entry, games, known),
+            means,
+        }
     }
 }
 
-/// Judges a problem. First, where the author's game solves it, a search led by it looks for another game or a shorter
-/// one, over at most a million nodes; where it finds one the problem is `NotSound`. Else searches of all games follow,
-/// of a million nodes, of ten times as many, and so on up to `limits`, each where the one before gave up, and each
-/// followed by one that cuts by journeys too, by the first of these bounds of code 5, where `limits` say so and it gave
-/// up; what one has written to `scratch` is checked by these bounds, with the games that it found. With `Settled` those
-/// games are all that solve the problem, and no game of fewer plies ends on its diagram; what was checked stands in
-/// `scratch` then. With `NotSound` no list of one game is the answer: a shorter game was found, or one that is none of
-/// the author's, and tested; or two games at least are known and tested. No search is trusted for anything. With
-/// `NotSettled` nothing is claimed; there is no refusal, since want of memory and a scratch that refuses are among its
-/// reasons. What the searches grow by is taken from `alloc`; `watch` is told how far they are.
+/// Judges a problem by its first searches. Where the author's game solves it, one that is led by it comes first and
+/// looks for another game or a shorter one. A search of all games follows, each of these over at most a million nodes;
+/// where it gives up, one that cuts by journeys too, by the first of these bounds of code 5, over at most 20,000; and
+/// where no game solves the problem that the author gave, one that draws its order of moves, for two games or a shorter
+/// one. None visits more nodes than `limits` say, and none follows where enough games are known by these, or where
+/// `watch` does not go on.
+///
+/// What a search of all games has written to `scratch` is checked by these bounds, with the games that it found. With
+/// `Settled` those games are all that solve the problem, and no game of fewer plies ends on its diagram; what was
+/// checked stands in `scratch` then. With `NotSound` no list of one game is the answer: a shorter game was found, or
+/// one that is none of the author's, and tested; or two games at least are known and tested. No search is trusted for
+/// anything. What the searches grow by is taken from `alloc`; `watch` is told how far they are.
+///
+/// # Errors
+/// What is known where nothing of this is found, by which `prepare_tolls` goes on. Want of memory and a scratch that
+/// refuses are among its reasons.
 pub fn judge<S: Scratch, P: JudgeProgress>(
     alloc: Global,
     entry: &Entry<'_>,
@@ -156,18 +160,27 @@ pub fn judge<S: Scratch, P: JudgeProgress>(
     limits: Limits,
     scratch: &mut S,
     watch: &mut P,
-) -> Ruling
-    ensures headline { IsFindingOf entry.now result.finding }
+) -> Result<Ruling, Pending>
+    ensures headline { IfOk result (λ r. IsFindingOf entry.now r.finding) }
 {
     let given = given_to(entry);
     let mut games = author_of(alloc, entry, given);
-    let foreign = match lead(alloc, entry, given, limits.max_nodes, watch) {
-        Ok(ruling) => return ruling,
+    let foreign = match lead(alloc, entry, given, limits.first(), watch) {
+        Ok(ruling) => return Ok(ruling),
         Err(foreign) => foreign,
     };
     let question = Question { entry, bounds };
-    match search_on(alloc, &question, limits, scratch, &mut games, watch) {
-        Ok(ruling) => ruling,
-        Err(stop) => ended(entry, games, stop, foreign),
+    let stop = match search_twice(alloc, &question, limits, scratch, &mut games, watch) {
+        Ok(ruling) => return Ok(ruling),
+        Err(stop) => stop,
+    };
+    let pending = Pending {
+        games,
+        stop,
+        foreign,
+    };
+    if given == Given::Solves {
+        return Err(pending);
     }
+    draw(alloc, &question, limits, pending, watch)
 }

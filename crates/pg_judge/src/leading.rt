@@ -4,14 +4,13 @@ ghost use Rattle.pg_judge.specs.Ruling.{IsFindingOf};
 
 use crate::entry::Entry;
 use crate::given::Given;
-use crate::limits::LED;
 use crate::progress::{Effort, JudgeProgress};
 use crate::reach::Reach;
 use crate::ruling::{Evidence, Finding, Means, Ruling};
 use pg_cooks::{CookAnswer, LedLimits, cooks};
 use std::alloc::Global;
 
-// Looks for a game beside the author's, led by his where they solve the problem, over so many nodes at most.
+// Looks for a game beside the author's, led by his where they solve the problem, over `max_nodes` nodes at most.
 //
 // # Errors
 // Where none is found, or none leads: with how many foreign moves at most all games were gone through, if so.
@@ -28,7 +27,7 @@ pub(crate) fn lead<P: JudgeProgress>(
         return Err(None);
     }
     let limits = LedLimits {
-        max_nodes: max_nodes.min(LED),
+        max_nodes,
         foreign: None,
     };
     watch.begins(Effort::Cooks, limits.max_nodes);

@@ -2,6 +2,8 @@
 //! found.
 #![tactic(auto)]
 
+mod drawing;
+mod enough;
 mod entry;
 mod entry_fault;
 mod given;
@@ -12,6 +14,7 @@ mod old;
 mod progress;
 mod reach;
 mod rechecking;
+mod report;
 mod rows;
 mod ruling;
 mod scratch;
@@ -22,11 +25,12 @@ mod tolling;
 pub use entry::{Entry, read_entry};
 pub use entry_fault::EntryFault;
 pub use given::{Given, given_to};
-pub use judging::judge;
-pub use limits::Limits;
+pub use judging::{Pending, judge};
+pub use limits::{Enough, Limits};
 pub use old::{Old, Unsettled, unsettled_of};
 pub use progress::{Effort, JudgeProgress};
 pub use rechecking::{recheck, time_is_over};
+pub use report::write_finding;
 pub use rows::write_row;
 pub use ruling::{Evidence, Finding, Known, Means, Reason, Ruling, is_sound};
 pub use scratch::Scratch;

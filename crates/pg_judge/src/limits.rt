@@ -1,39 +1,61 @@
 //! How far a problem is searched.
-ghost use Rattle.std.specs.Prelude.{◌≡◌, min};
+
+/// Which games are enough.
+#[derive(Clone, Copy, Debug, PartialEq, Eq)]
+pub enum Enough {
+    /// The shortest one, of a problem whose length is not known: no search leaves the order of lengths.
+    Shortest,
+    /// Two: a search ends at the second one, since no problem with two is sound.
+    SecondGame,
+    /// What one search meets: where two games are known behind it no other search follows.
+    OneSearch,
+    /// All: searches go on whatever games are known.
+    AllGames,
+}
 
 /// How far a problem is searched.
 #[derive(Clone, Copy, Debug, PartialEq, Eq)]
 pub struct Limits {
-    /// One search visits so many nodes at most.
+    /// The most nodes that one search visits.
     pub max_nodes: u64,
-    /// Whether a search that gives up is followed by one that cuts by journeys too.
-    pub by_journeys: bool,
+    /// The games that are enough.
+    pub enough: Enough,
 }
 
-// The first search visits so many nodes at most.
+// The most nodes of the first search, and of one for cooks.
 const FIRST: u64 = 1_000_000;
 
+// The most nodes of a search by journeys that no tariffs help.
+const JOURNEYS: u64 = 20_000;
+
 impl Limits {
-    /// Those of the first search alone, and of that by journeys which follows it: `judge` goes as far by them as by
-    /// `self`, and ends where it would go on to more nodes.
-    pub fn first(self) -> Limits
-        ensures nodes { result.max_nodes ≡ min 1000000 self.max_nodes }
-        ensures journeys { result.by_journeys ≡ self.by_journeys }
-    {
-        Limits {
-            max_nodes: FIRST.min(self.max_nodes),
-            by_journeys: self.by_journeys,
-        }
+    // The most nodes of a search for cooks, and of the first one that writes a certificate.
+    pub(crate) fn first(self) -> u64 {
+        self.max_nodes.min(FIRST)
     }
-}
 
-// A search for cooks visits so many nodes at most.
-pub(crate) const LED: u64 = 1_000_000;
+    // The most nodes of the first search that cuts by journeys too.
+    pub(crate) fn by_journeys(self) -> u64 {
+        self.max_nodes.min(JOURNEYS)
+    }
 
-// So many limits are tried at most, each ten times the one before: more than there are powers of ten below 2^64.
-pub(crate) const MOST: u8 = 20;
+    // Whether searches may have more nodes than these first ones.
+    pub(crate) fn go_on(self) -> bool {
+        self.max_nodes > JOURNEYS
+    }
 
-// The limit behind one that was not enough: ten times as many nodes, `most` at most.
-pub(crate) fn next_limit(limit: u64, most: u64) -> u64 {
-    limit.saturating_mul(10).min(most)
+    // Whether a search may go into the tree of the stated length alone.
+    pub(crate) fn draw(self) -> bool {
+        self.enough != Enough::Shortest
+    }
+
+    // Whether a search goes on where `count` games are known.
+    pub(crate) fn search_on(self, count: usize) -> bool {
+        !matches!(self.enough, Enough::Shortest | Enough::SecondGame) || count < 2
+    }
+
+    // Whether another search follows one behind which `count` games are known.
+    pub(crate) fn search_again(self, count: usize) -> bool {
+        self.enough == Enough::AllGames || count < 2
+    }
 }

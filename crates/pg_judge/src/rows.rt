@@ -63,6 +63,7 @@ fn effort_words(effort: Effort) -> &'static str
         Effort::Cooks => "cooks, ",
         Effort::Search => "search, ",
         Effort::Journeys => "journeys, ",
+        Effort::Drawn => "drawn, ",
         Effort::Tariffs => "tariffs, ",
         Effort::Tolls => "tolls, ",
     }
@@ -74,6 +75,7 @@ fn reason_words(reason: Reason) -> &'static str
 {
     match reason {
         Reason::Nodes => "limit reached",
+        Reason::Time => "time limit reached",
         Reason::Memory => "out of memory",
         Reason::Scratch => "certificate not written",
         Reason::Bytes => "certificate limit reached",
@@ -283,7 +285,7 @@ fn write_cooks<W: Sink>(foreign: Option<u8>, out: &mut W) -> Result<(), Refused>
 }
 
 // Appends what is known where nothing is settled.
-fn write_known<W: Sink>(known: &Known, out: &mut W) -> Result<(), Refused>
+pub(crate) fn write_known<W: Sink>(known: &Known, out: &mut W) -> Result<(), Refused>
     ensures { Pushes W.held W.has_failed (Adds (known_text known.now)) out.old out.new result }
 {
     write_number("", known.games, met_words(known.games), out)?;
@@ -325,7 +327,7 @@ fn append_row<W: Sink>(
 /// Writes the row of a problem, of what is found of it and by what, and of a certificate that stood there and did not
 /// settle it. The columns, with a tab between two of them: the name; the length; `sound`, `cooked`, `no game`, `not
 /// sound` or `not settled`; `-` where no game is given, `solves` where the author's game does, `fails` where it does
-/// not; by what it was found, as `search, 67036 nodes`, `journeys, 3033 nodes`, `tariffs, 64 nodes`, `tolls, 64 nodes`,
+/// not; by what it was found, as `search, 67036 nodes`, `journeys, 3033 nodes`, `drawn, 64 nodes`, `tariffs, 64 nodes`, `tolls, 64 nodes`,
 /// `cooks, 211 nodes`, `certificate, 67037 records` or `certificate, time is over`, and `, old certificate refused` or
 /// `, certificate of another problem kept`; and last the game, of more than one their number and the first two, the
 /// other game, the shorter one, or what is known where nothing is settled. Takes no memory.

@@ -23,8 +23,10 @@ pub enum Evidence {
 /// Why a problem is not settled.
 #[derive(Clone, Copy, Debug, PartialEq, Eq)]
 pub enum Reason {
-    /// The searches came to their limits, or to the end of their time.
+    /// The searches came to their limits of nodes.
     Nodes,
+    /// The time of the searches was over.
+    Time,
     /// Memory was refused.
     Memory,
     /// The certificate could not be written, or read again.

@@ -2,7 +2,9 @@
 ghost use Rattle.std.specs.Prelude.{IfOk};
 ghost use Rattle.pg_judge.specs.Ruling.{IsFindingOf};
 
+use crate::enough::UntilEnough;
 use crate::entry::Entry;
+use crate::limits::Limits;
 use crate::progress::{Effort, JudgeProgress};
 use crate::ruling::{Finding, Known, Means, Reason, Ruling};
 use crate::scratch::Scratch;
@@ -13,7 +15,7 @@ use pg_certificate::{FromRead, Sink, Source, ToWrite};
 use pg_checker::{Fault, Problem, check};
 use pg_fen::Length;
 use pg_san::Games;
-use pg_searcher::{Met, SearchFault, search_by_tolls, search_watched};
+use pg_searcher::{SearchFault, search_by_tolls, search_watched};
 use pg_texts::verdict_on;
 use pg_tolls::Tariff;
 use std::alloc::Global;
@@ -25,12 +27,14 @@ pub(crate) struct Question<'a> {
     pub(crate) bounds: &'a [Box<dyn Bound>],
 }
 
-// One search: how many nodes it visits at most; the bounds by which its certificate is checked, of which it asks that
-// by journeys; the tariffs that it asks too; and the bytes that are to stand before its certificate.
+// One search: how many nodes it visits at most, and which games are enough; the bounds by which its certificate is
+// checked, of which it asks that by journeys; the tariffs that it asks too; and the bytes that are to stand before its
+// certificate.
 #[derive(Clone, Copy)]
 pub(crate) struct Attempt<'a> {
     pub(crate) effort: Effort,
     pub(crate) limit: u64,
+    pub(crate) limits: Limits,
     pub(crate) bounds: &'a [Box<dyn Bound>],
     pub(crate) tariffs: &'a [Tariff],
     pub(crate) lead: &'a [u8],
@@ -38,10 +42,16 @@ pub(crate) struct Attempt<'a> {
 
 impl<'a> Attempt<'a> {
     // One without tariffs, which writes a certificate alone.
-    pub(crate) fn alone(effort: Effort, limit: u64, bounds: &'a [Box<dyn Bound>]) -> Attempt<'a> {
+    pub(crate) fn alone(
+        effort: Effort,
+        limit: u64,
+        limits: Limits,
+        bounds: &'a [Box<dyn Bound>],
+    ) -> Attempt<'a> {
         Attempt {
             effort,
             limit,
+            limits,
             bounds,
             tariffs: &[],
             lead: &[],
@@ -72,7 +82,7 @@ fn search_into<S: Scratch, P: JudgeProgress>(
     problem: &Problem,
     attempt: &Attempt<'_>,
     scratch: &mut S,
-    met: &mut Met<'_, P>,
+    watch: &mut UntilEnough<'_, P>,
 ) -> Result<Games, SearchFault> {
     let Attempt {
         effort,
@@ -80,6 +90,7 @@ fn search_into<S: Scratch, P: JudgeProgress>(
         bounds,
         tariffs,
         lead,
+        ..
     } = *attempt;
     let mut sink = ToWrite::new(scratch);
     if sink.push(lead).is_err() {
@@ -87,12 +98,12 @@ fn search_into<S: Scratch, P: JudgeProgress>(
     }
     let (diagram, length) = (&problem.diagram, problem.length);
     match effort {
-        Effort::Search | Effort::Cooks => {
-            search_watched(alloc, diagram, length, limit, &mut sink, met)
+        Effort::Search | Effort::Cooks | Effort::Drawn => {
+            search_watched(alloc, diagram, length, limit, &mut sink, watch)
         }
         Effort::Journeys | Effort::Tariffs | Effort::Tolls => {
             search_by_tolls(
-                alloc, diagram, length, limit, bounds, tariffs, &mut sink, met,
+                alloc, diagram, length, limit, bounds, tariffs, &mut sink, watch,
             )
         }
     }
@@ -116,12 +127,12 @@ pub(crate) fn search_for<S: Scratch, P: JudgeProgress>(
     }
     let limit = attempt.limit;
     watch.begins(attempt.effort, limit);
-    let mut met = Met::new(watch, games, limit);
-    let found = search_into(alloc, problem, attempt, scratch, &mut met);
+    let mut watch = UntilEnough::new(watch, games, limit, attempt.limits);
+    let found = search_into(alloc, problem, attempt, scratch, &mut watch);
     Searched {
         found,
-        nodes: limit.saturating_sub(met.left),
-        tree: met.tree,
+        nodes: limit.saturating_sub(watch.met.left),
+        tree: watch.met.tree,
     }
 }
 
@@ -229,6 +240,32 @@ fn settled<S: Scratch, P: JudgeProgress>(
     }
 }
 
+// Why searches settled nothing: where their limits did not let them, maybe the end of their time.
+pub(crate) fn in_time<P: JudgeProgress>(reason: Reason, watch: &mut P) -> Reason {
+    if reason == Reason::Nodes && !watch.goes_on() {
+        Reason::Time
+    } else {
+        reason
+    }
+}
+
+// What a search came to that did not settle the problem, where another one came behind it that did not either.
+pub(crate) fn behind<P: JudgeProgress>(stop: Stop, means: Means, watch: &mut P) -> Stop {
+    let Known {
+        games,
+        below,
+        foreign,
+        reason,
+    } = stop.known;
+    let known = Known {
+        games,
+        below,
+        foreign,
+        reason: in_time(reason, watch),
+    };
+    Stop { known, means }
+}
+
 // The length of the tree at work, below which no game was met; none where that is the first one.
 fn below(tree: u8) -> Option<Length> {
     if tree == 0 {
@@ -269,6 +306,6 @@ pub(crate) fn attempt_once<S: Scratch, P: JudgeProgress>(
     let means = Means::Search(attempt.effort, nodes);
     match settled(alloc, question, attempt, found, scratch, watch) {
         Ok(finding) => Ok(Ruling { finding, means }),
-        Err(reason) => Err(stopped(reason, games, means, tree)),
+        Err(reason) => Err(stopped(in_time(reason, watch), games, means, tree)),
     }
 }

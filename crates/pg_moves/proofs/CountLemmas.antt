@@ -1,4 +1,4 @@
--- The games of so many plies, as a list, and their number.
+-- The games of k plies, as a list, and their number.
 use Rattle.std.proofs.Common.{◌≡◌, ℕ, zero, suc, ◌+◌, ◌-◌, ◌<◌, ◌≤◌, ◌^◌, inl, inr, List, [], ◌∷◌, ◌++◌, length, length-append, map, take, get_or, refl, sym, ap, ap₂, subst, arith, ◌∙◌}
 use Rattle.std.specs.List.{Contains, sum_by}
 use Rattle.std.specs.declared.cmp.Ordering.TheVariants.{Less, Equal}

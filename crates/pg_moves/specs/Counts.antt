@@ -1,4 +1,4 @@
--- How many games of so many plies go on from a position.
+-- How many games of k plies go on from a position.
 use Rattle.std.specs.Prelude.{◌≡◌, ◌↔◌, ℕ, ◌^◌, ◌<◌, ◌≤◌, List, length}
 use Rattle.std.specs.List.{Contains}
 use Rattle.pg_position.specs.declared.state.State.{State}

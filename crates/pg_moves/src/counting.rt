@@ -1,4 +1,4 @@
-//! The number of games of so many plies from a position.
+//! How many games of a number of plies go on from a position.
 ghost use Rattle.std.specs.Prelude.{◌≡◌, ◌<◌, ◌≤◌, ◌↔◌, IfOk, IfErr, IsErrOf, MatchResult};
 ghost use Rattle.pg_moves.specs.Moves.{IsMoveList};
 ghost use Rattle.pg_moves.specs.Counts.{IsGameCount, IsCountFault};
@@ -43,7 +43,7 @@ fn count_two(position: &Position) -> u64
     total
 }
 
-// The games of so many plies, 8 at most.
+// The games of `plies` plies, 8 at most.
 #[cycle(count)]
 #[inline(always)]
 fn count_from<P: CountProgress>(
@@ -65,7 +65,7 @@ fn count_from<P: CountProgress>(
     }
 }
 
-// The games of so many plies, 2 to 8, summed over a list of the moves.
+// The games of `plies` plies, 2 to 8, summed over a list of the moves.
 #[cycle(count)]
 fn count_listed<P: CountProgress>(
     alloc: Global,
@@ -106,7 +106,7 @@ pub fn count_legal(position: &Position) -> u64
     count_moves(position)
 }
 
-/// How many games of so many plies go on from the position: 1 for none, and else, over its legal
+/// How many games of `plies` plies go on from the position: 1 for none, and else, over its legal
 /// moves, the sum of the games of one ply less after each.
 ///
 /// # Errors

@@ -21,7 +21,7 @@ pub fn moves_and_play_are_functions()
         × ((p : State) (m : Move) (q : State) → IsPosition p → Legal p m q → play p m ≡ q) }
 {}
 
-/// There is one number of games of so many plies from a position: 1 of none, and of one ply more the
+/// There is one number of games of each number of plies from a position: 1 of none, and of one ply more the
 /// sum over the move list of the games after each move.
 pub fn one_game_count()
     ensures one { (p : State) (k m n : ℕ) → IsGameCount p k m → IsGameCount p k n → m ≡ n }

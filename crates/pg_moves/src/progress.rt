@@ -2,7 +2,7 @@
 
 /// Is told how far a count is. Nothing that it does changes the number.
 pub trait CountProgress {
-    /// So many games more are counted.
+    /// `games` more games are counted.
     fn counted(&mut self, games: u64);
 }
 

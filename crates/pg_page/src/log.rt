@@ -5,6 +5,7 @@ use pg_certificate::Bare;
 use pg_checker::{CheckWatch, Problem, Spot};
 use pg_position::{Move, Position};
 use pg_price_lists::Prices;
+use pg_tolls::Tariff;
 use std::alloc::{AllocError, Global};
 
 // What a line of the trees says: that a tree of so many plies begins; that a node with so many plies left is expanded,
@@ -40,9 +41,12 @@ struct Whereabouts {
 }
 
 // The lines of the trees, so far as they are told by what was met, and the price lists that they have; whether there
-// was no room for one of them; and how deep the tree of the stated length and the shorter ones are told.
+// was no room for one of them; and how deep the tree of the stated length and the shorter ones are told. The tariffs
+// are those that stand before the certificate.
 #[derive(Drop)]
-pub(crate) struct Log {
+pub(crate) struct Log<'a> {
+    pub(crate) alloc: Global,
+    pub(crate) tariffs: &'a [Tariff],
     plies: u8,
     place: Whereabouts,
     last: Floor,
@@ -101,11 +105,18 @@ pub(crate) fn read_lists(lists: &[u8], at: usize, prices: &mut Prices) {
     }
 }
 
-impl Log {
+impl<'a> Log<'a> {
     // Nothing is met, and of the tree of the stated length so many expanded nodes are told at most, and of the shorter
     // ones together. What is kept takes its room from `alloc`.
-    pub(crate) fn new(alloc: Global, problem: &Problem, nodes: u64) -> Log {
+    pub(crate) fn new(
+        alloc: Global,
+        problem: &Problem,
+        tariffs: &'a [Tariff],
+        nodes: u64,
+    ) -> Log<'a> {
         Log {
+            alloc,
+            tariffs,
             plies: problem.length.plies(),
             place: Whereabouts {
                 tree: 0,
@@ -239,7 +250,7 @@ fn is_edge(item: &Item) -> bool {
     matches!(&item.said, Said::Began | Said::Over(_))
 }
 
-impl CheckWatch for Log {
+impl CheckWatch for Log<'_> {
     fn began(&mut self, plies: u8) {
         if plies > 0 {
             self.end_tree();

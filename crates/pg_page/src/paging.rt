@@ -19,6 +19,7 @@ use pg_sentences::phrases::{
     AFTER, AS, AT_THE_START, BARREN, CUT_BY, ELSEWHERE, EXCLUDED, SOLUTION, UNSEEN,
 };
 use pg_sentences::untold;
+use pg_tolls::Tariff;
 use std::alloc::Global;
 
 // The code of the bound by journeys.
@@ -107,7 +108,7 @@ fn write_end<W: Sink>(out: &mut W) -> Result<(), Refused>
 fn write_proof<W: Sink>(
     problem: &Problem,
     by_journeys: bool,
-    log: &Log,
+    log: &Log<'_>,
     out: &mut W,
 ) -> Result<(), Refused>
     ensures { Pushes W.held W.has_failed Grows out.old out.new result }
@@ -124,7 +125,7 @@ fn show<W: Sink>(
     problem: &Problem,
     by_journeys: bool,
     answer: &Answer,
-    log: &Log,
+    log: &Log<'_>,
     out: &mut W,
 ) -> Result<(), Refused>
     ensures { Pushes W.held W.has_failed
@@ -139,7 +140,7 @@ fn write_page<W: Sink>(
     problem: &Problem,
     by_journeys: bool,
     answer: &Answer,
-    log: &mut Log,
+    log: &mut Log<'_>,
     out: &mut W,
 ) -> Result<(), PageFault>
     ensures head { OnOk result (AddsHead problem.now.diagram problem.now.length by_journeys answer.now
@@ -158,14 +159,16 @@ fn write_page<W: Sink>(
 }
 
 /// Checks a certificate that was opened, and writes a page that shows it: one file of HTML, which needs nothing else,
-/// with at most `nodes` expanded nodes of the tree of the stated length, and of the shorter ones together.
+/// with at most `nodes` expanded nodes of the tree of the stated length, and of the shorter ones together. `tariffs` are
+/// those of the bounds with the codes from `Tolls::FIRST_CODE` on, in their order, for the words of their cuts.
 /// docs/FORMATS.md says what stands there. Ok means that some list of games is the exact answer to the problem of the
 /// header, that the certificate proves it, and that the page begins with the head of just that answer: the diagram,
 /// the word `--journeys` where the bound by journeys is among those handed in, the verdict, what was checked, and each
 /// game. No clause speaks of what follows. Nothing is written before the check has said yes.
 ///
 /// The certificate is read once: `source` is the one that it was opened from, as that call left it. The games, the
-/// named nodes and the lines of the trees take their room from `alloc`; nothing else takes memory.
+/// named nodes, the lines of the trees and the tables of tariffs take their room from `alloc`; nothing else takes
+/// memory. Where room for tables is refused, the cuts by a tariff are told as not seen to exclude.
 ///
 /// # Errors
 /// In this order: `Answer` where the certificate gives no answer, with its cause; and where it does, `Memory` where
@@ -174,6 +177,7 @@ pub fn page<R: Source, W: Sink>(
     alloc: Global,
     opened: &mut Opened,
     nodes: u64,
+    tariffs: &[Tariff],
     bounds: &[Box<dyn Bound>],
     source: &mut R,
     out: &mut W,
@@ -197,7 +201,7 @@ pub fn page<R: Source, W: Sink>(
         opened.old.diagram opened.old.plies (failures (R.has_failed source.new) (W.has_failed out.new))) }
 {
     let problem = opened.problem();
-    let mut log = Log::new(alloc, &problem, nodes);
+    let mut log = Log::new(alloc, &problem, tariffs, nodes);
     match answer_opened(
         alloc,
         opened,

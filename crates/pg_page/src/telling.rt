@@ -15,7 +15,8 @@ use pg_moves::LegalMoves;
 use pg_position::{Move, Position};
 use pg_price_lists::Prices;
 use pg_sentences::{
-    GrowingDistances, Node, Sentence, Tally, put_all, put_expanded, put_number, put_things, untold,
+    GrowingDistances, GrowingFares, Node, Sentence, Tally, put_all, put_expanded, put_number,
+    put_things, untold,
 };
 
 // The lines that are written at once, up to the words at the end of the last: those of the leaves below a node, of
@@ -30,7 +31,7 @@ struct Lines {
 }
 
 // What is told: the trees of a diagram, so deep; the tree at work, the positions of its open nodes, the price lists of
-// the last record, and what is known of the diagram's distances.
+// the last record, and what is known of the diagram's distances and by tariffs.
 #[derive(Drop)]
 struct Told<'a> {
     diagram: &'a Diagram,
@@ -38,6 +39,7 @@ struct Told<'a> {
     open: ArrayVec<Opened, 129>,
     prices: Prices,
     distances: GrowingDistances,
+    fares: GrowingFares<'a>,
 }
 
 // The position of an open node, and what its children are, so far as they were told.
@@ -122,16 +124,20 @@ fn put_ended(told: &mut Told, left: u8, reached: &Reached, said: &Bare, lines: &
         left,
     };
     let words = &mut lines.words;
-    let code = told
-        .distances
-        .put_reason_of_cut(&node, said, &told.prices, words);
+    let code = match told.fares.put_reason_of_cut(&node, said, words) {
+        Some(code) => Some(code),
+        None => told
+            .distances
+            .put_reason_of_cut(&node, said, &told.prices, words),
+    };
     put_code(&mut lines.text, code);
 }
 
 // A node with this record is a child of the topmost open one, which counts it.
 fn count_child(told: &mut Told, said: &Bare) {
+    let tariffs = told.fares.count();
     if let Some(parent) = told.open.last_mut() {
-        parent.tally.count(said);
+        parent.tally.count(said, tariffs);
     }
 }
 
@@ -274,8 +280,8 @@ fn write_lines<W: Sink>(lines: &Lines, out: &mut W) -> Result<(), Refused>
 }
 
 // Appends the trees that were met, the shorter ones first, each between a line with its plies and one with the number
-// of its expanded nodes. Takes no memory.
-pub(crate) fn tell<W: Sink>(diagram: &Diagram, log: &Log, out: &mut W) -> Result<(), Refused>
+// of its expanded nodes. Only tables of tariffs take memory; where it is refused, a cut by one is not seen to exclude.
+pub(crate) fn tell<W: Sink>(diagram: &Diagram, log: &Log<'_>, out: &mut W) -> Result<(), Refused>
     ensures { MayPush W.held W.has_failed Grows out.old out.new result }
 {
     let mut told = Told {
@@ -287,6 +293,7 @@ pub(crate) fn tell<W: Sink>(diagram: &Diagram, log: &Log, out: &mut W) -> Result
         open: ArrayVec::new(),
         prices: Prices::new(&[], &[]).unwrap(),
         distances: GrowingDistances::new(diagram),
+        fares: GrowingFares::new(log.alloc, diagram, log.tariffs),
     };
     let mut lines = Lines {
         text: Text::new(),

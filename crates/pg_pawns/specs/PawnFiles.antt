@@ -23,7 +23,7 @@ line_need d b c n =
     (men c (pawn_left (n + 1)) d - men c (pawn_left (n + 1)) b)
     + (men c (pawn_right (n + 1)) d - men c (pawn_right (n + 1)) b)
 
--- the same of the seven lines between neighbouring files: so many file changes are needed
+-- the sum of that over the seven lines between neighbouring files: how many file changes are needed
 unfoldable pub shift : Placement → Placement → Color → ℕ
 shift d b c = total (line_need d b c) 7
 

@@ -11,7 +11,7 @@ use Rattle.pg_captures.specs.Counting.{any_pawn}
 use Rattle.pg_captures.specs.Owed.{owed}
 use Rattle.pg_captures.specs.PriceLists.{PriceList, price, IsFor}
 
--- n is the cost from a pawn on s to a pawn on t: so many files apart they are, and t is at least as many ranks forward.
+-- n is the cost from a pawn on s to a pawn on t: they are n files apart, and t is at least n ranks forward.
 -- Other squares have no cost
 abbrev pub IsShift : Color → ℕ → ℕ → ℕ → Type 0
 IsShift c s t n = (apart (file s) (file t) ≡ n) × ((ranks : ℕ) × IsForward c ranks s t × (n ≤ ranks))

@@ -16,7 +16,7 @@ use Rattle.pg_captures.specs.lemmas.OwedLemmas.{owed_below_less}
 use Rattle.pg_captures.specs.PriceLists.{PriceList, price}
 use Rattle.pg_pawns.specs.PawnPrices.{IsShift, PawnPricesFit, PawnPricesExclude}
 
--- the square t is at least so many ranks ahead of s
+-- the square t is at least n ranks ahead of s
 dec_ahead : (c : Color) (s t n : ℕ) → Dec ((ranks : ℕ) × IsForward c ranks s t × (n ≤ ranks))
 dec_ahead White s t n = dec_along (λ h. (rank t - rank s, omega (arith, h), omega (arith, h))) (λ h. (let e : rank t ≡ rank s + h.0 = h.1 in let low : n ≤ h.0 = h.2 in omega arith)) (dec_at_most (rank s + n) (rank t))
 dec_ahead Black s t n = dec_along (λ h. (rank s - rank t, omega (arith, h), omega (arith, h))) (λ h. (let e : rank s ≡ rank t + h.0 = h.1 in let low : n ≤ h.0 = h.2 in omega arith)) (dec_at_most (rank t + n) (rank s))

@@ -11,7 +11,7 @@ use pg_captures::{pawns, price_sum, victims_of};
 use pg_fen::Diagram;
 use pg_position::Position;
 
-// Whether the second rank is at least so many ranks before the first, as the colour's pawns go.
+// Whether the second rank is at least `ranks` ranks before the first, as the colour's pawns go.
 fn is_ahead(color: Color, from: u8, to: u8, ranks: u8) -> bool
     requires { (from < 9) × (to < 9) × (ranks < 9) }
     ensures { IsTrue result ↔ IsAhead color from to ranks }
@@ -22,7 +22,7 @@ fn is_ahead(color: Color, from: u8, to: u8, ranks: u8) -> bool
     }
 }
 
-// Whether a target pays at most what a source does and so many files.
+// Whether a target pays at most what a source does and `files` more.
 fn pays_at_most(v: u8, u: u8, files: u8) -> bool
     ensures { IsTrue result ↔ (v ≤ u + files) }
 {

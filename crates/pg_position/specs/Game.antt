@@ -1,4 +1,4 @@
--- Games: lists of legal moves, one after another; and placements that no game of so many plies comes to.
+-- Games: lists of legal moves, one after another; and placements that no game of k plies comes to.
 use Rattle.std.specs.Prelude.{◌≡◌, ◌≢◌, ℕ, List, [], ◌∷◌, length}
 use Rattle.std.specs.List.{Contains}
 use Rattle.pg_board.specs.Placement.{Placement}

@@ -33,7 +33,7 @@ pub fn is_enemy(board: &Board, color: Color, square: Square) -> bool
     board.squares_of_color(color.other()).contains(square)
 }
 
-// Whether `to` is so many ranks forward.
+// Whether `to` is `ranks` ranks forward of `from`.
 pub(crate) fn is_forward(color: Color, ranks: u8, from: Square, to: Square) -> bool
     requires { ranks < 9 }
     ensures { IsTrue result ↔ IsForward color ranks from to }

@@ -8,7 +8,7 @@ ghost use Rattle.pg_position.specs.Squares.{home_rank, last_rank, king_crossed, 
 use crate::rights::Wing;
 use pg_board::{Color, Kind, Square, SquareSet};
 
-/// The square so many ranks forward, which is on the board: towards rank 8 for White, towards rank 1
+/// The square `ranks` ranks forward, which is on the board: towards rank 8 for White, towards rank 1
 /// for Black (FIDE article 3.7.1).
 #[inline(always)]
 pub fn ahead(color: Color, ranks: u8, square: Square) -> Square
@@ -22,7 +22,7 @@ pub fn ahead(color: Color, ranks: u8, square: Square) -> Square
     }
 }
 
-/// Whether the square so many ranks forward is on the board.
+/// Whether the square `ranks` ranks forward is on the board.
 #[inline(always)]
 pub fn has_ahead(color: Color, ranks: u8, square: Square) -> bool
     requires { ranks < 8 }

@@ -39,7 +39,7 @@ fn sum(prices: &Row) -> u16 {
     sum
 }
 
-/// What the value of no assignment is below: the least costs of the first so many targets, added up, a dummy's
+/// What the value of no assignment is below: the least costs of the first `targets` targets, added up, a dummy's
 /// included.
 pub fn least_costs(costs: &Costs, targets: usize, dummy: u8) -> u16 {
     let mut sum = 0u16;
@@ -51,7 +51,7 @@ pub fn least_costs(costs: &Costs, targets: usize, dummy: u8) -> u16 {
     sum
 }
 
-/// A least assignment of the first so many targets, at most 16: each gets a source of its own or a
+/// A least assignment of the first `targets` targets, at most 16: each gets a source of its own or a
 /// dummy of the stated cost, at most 85, and the value is the sum of the costs.
 ///
 /// Prices and value are those of the Hungarian method by shortest augmenting paths (J. Munkres, "Algorithms for the

@@ -179,7 +179,7 @@ fn count_own(least: [u8; MOST_MEN], row: [u8; MOST_MEN]) -> u32 {
     are_his.to_bitmask().count_ones()
 }
 
-// The men of a kind of whom fewer than so many of the least distances are.
+// The men of a kind of whom fewer than `most` of the least distances are.
 #[inline(always)]
 fn of_few(least: [u8; MOST_MEN], most: u32, rows: &Rows, kind: Kind, men: SquareSet) -> SquareSet {
     let mut few = SquareSet::empty();
@@ -195,7 +195,7 @@ fn of_few(least: [u8; MOST_MEN], most: u32, rows: &Rows, kind: Kind, men: Square
     few
 }
 
-// The men of a board after any move of whom the sum of the least distances and so many more is above so many plies. A
+// The men of a board after any move of whom the sum of the least distances and `more` is above `plies`. A
 // move brings a man nearer to a target by one at most, which lowers the sum by one only where no man was nearer to it.
 // So all that has to be known of a man is how many of the least distances are his.
 fn cut_off_by(two: &Two, more: u16, plies: u8, rows: &Rows, board: &Board) -> SquareSet {
@@ -246,8 +246,8 @@ impl Leasts {
         }
     }
 
-    /// The men of a board after each move of whom, whatever its square, the least distances sum to more than so many
-    /// plies in each way, with or without castling, so that the need of travel is above them: no move brings a man
+    /// The men of a board after each move of whom, whatever its square, the least distances sum to more than `plies` in
+    /// each way, with or without castling, so that the need of travel is above them: no move brings a man
     /// nearer to a target than by one. The board is that of which these distances are.
     pub fn cut_off(&self, rows: &Rows, board: &Board, plies: u8) -> SquareSet {
         let men = cut_off_by(&self.free, 0, plies, rows, board);

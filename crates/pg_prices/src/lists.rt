@@ -15,7 +15,7 @@ pub struct Lists {
 }
 
 impl Lists {
-    /// No list, for so many sources and targets, at most 16 each.
+    /// No list, for `sources` sources and `targets` targets, at most 16 each.
     pub fn new(sources: usize, targets: usize) -> Lists {
         let mut bytes = [0; MOST_BYTES];
         bytes[1] = sources.min(MOST_MEN) as u8;
@@ -31,7 +31,7 @@ impl Lists {
         self.bytes[0] = self.bytes[0].saturating_add(1);
     }
 
-    // Adds the first so many numbers of a row.
+    // Adds the first `count` numbers of a row.
     fn add_row(&mut self, row: &[u8; MOST_MEN], count: u8) {
         let end = self.end;
         for i in 0..MOST_MEN {
@@ -66,7 +66,7 @@ fn number_at(bytes: &[u8], at: usize) -> usize {
     }
 }
 
-// So many bytes from a place on, none where there are fewer.
+// `count` bytes from a place on, none where there are fewer.
 fn part(bytes: &[u8], at: usize, count: usize) -> &[u8] {
     match bytes.get(at..at.saturating_add(count)) {
         Some(part) => part,

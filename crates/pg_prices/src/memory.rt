@@ -72,7 +72,7 @@ fn write(slots: &mut Vec<Slot>, at: usize, slot: Slot) {
 }
 
 impl Memory {
-    /// A memory of nothing, of at most so many entries. What it grows by is taken from `alloc`.
+    /// A memory of nothing, for `most` entries at most. What it grows by is taken from `alloc`.
     pub fn new(alloc: Global, most: usize) -> Memory {
         Memory {
             slots: Vec::new(alloc),

@@ -11,7 +11,7 @@ pub no_solution : (d : Placement) (n : ℕ) (ms : List Move) → Barren d array_
 unfolding Barren
 no_solution d n ms barren solution = barren ms solution.1.0 solution.0 solution.1.1 solution.1.2
 
--- the length of so many plies, where there is one
+-- the length of k plies, where there is one
 pub length_from : (o : Option ℕ) (k : ℕ) → k ≤ 128 → IsSome o ↔ k ≤ 128 → IfSome o (λ n. n ≡ k) → o ≡ Some k
 length_from None k few valid e = absurd (let said : IsSome {T = ℕ} None = valid.1 few in cc)
 length_from (Some n) k few valid e = ap Some e

@@ -43,20 +43,20 @@ IsExpected d (Some n) facts least (Some e) =
     (λ f. by_journeys n (free_men f) (captured_men d)) facts)
     × ((white : ℕ) × (black : ℕ) × (IsTrue e.is_longer ↔ (e.hundredths + 100 ≤ without_journeys n white black)))
 
--- so many hundredths of an exponent; those of the next power of ten where
+-- h hundredths of an exponent; those of the next power of ten where
 -- that is nearer than nine times the last one, since 9.5 is 10^0.9777
 abbrev pub rounded : ℕ → ℕ
 rounded h = cond (nat_le 98 (h % 100)) (h + 2) h
 
--- the digit that is nearest to the power of ten whose exponent is so many
--- hundredths, fewer than 98: 1.5 is 10^0.1760, 2.5 is 10^0.3979 and so on
+-- the digit that is nearest to the power of ten whose exponent is r hundredths, fewer than 98: 1.5 is 10^0.1760, 2.5 is
+-- 10^0.3979 and so on
 abbrev pub digit_text : ℕ → List ℕ
 digit_text r =
     cond (nat_le r 17) (codes "1") (cond (nat_le r 39) (codes "2") (cond (nat_le r 54) (codes "3")
     (cond (nat_le r 65) (codes "4") (cond (nat_le r 74) (codes "5") (cond (nat_le r 81) (codes "6")
     (cond (nat_le r 87) (codes "7") (cond (nat_le r 92) (codes "8") (codes "9"))))))))
 
--- so many zeros, three of them as a word
+-- z zeros, three of them as a word
 abbrev pub unit_text : ℕ → List ℕ
 unit_text z =
     cond (nat_le z 0) (codes "") (cond (nat_le z 1) (codes "0") (cond (nat_le z 2) (codes "00")

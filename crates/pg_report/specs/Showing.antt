@@ -42,7 +42,7 @@ reason_text (Some Pairs) = codes " (travel, pair by pair)"
 abbrev pub behind_text : ℕ → List ℕ → List ℕ
 behind_text n words = codes ", " ++ (decimal n ++ words)
 
--- how many of so many plies of its own are left over, or short, for a need of n; nothing where no length is asked
+-- how many of a colour's `own` plies are left over, or short, for a need of n; nothing where no length is asked
 abbrev pub spare_text : Option ℕ → ℕ → List ℕ
 spare_text None n = codes "\n"
 spare_text (Some own) n =

@@ -55,7 +55,7 @@ fn captured_men(diagram: &Diagram) -> u8
     32u8.saturating_sub(all_men(&board, Color::White) + all_men(&board, Color::Black))
 }
 
-// The rule of thumb for games of so many plies, by men who may move or be captured, and by men who were captured.
+// The rule of thumb for games of `plies` plies, by men who may move or be captured, and by men who were captured.
 fn by_journeys(plies: u8, free: u8, captured: u8) -> u16
     ensures { result ≡ by_journeys plies free captured }
 {
@@ -63,7 +63,7 @@ fn by_journeys(plies: u8, free: u8, captured: u8) -> u16
     quiet.saturating_sub(28 * u16::from(captured.min(4)))
 }
 
-// What the rule says by facts about the games of so many plies.
+// What the rule says by facts about the games of `plies` plies.
 fn by_facts(diagram: &Diagram, plies: u8, facts: &Option<Facts>) -> Option<u16>
     ensures { result ≡ option_map (λ f. by_journeys plies (free_men f) (captured_men diagram.now)) facts.now }
 {
@@ -143,7 +143,7 @@ fn digit_words(hundredths: u32) -> &'static str
     }
 }
 
-// So many zeros, three of them as a word.
+// `zeros` zeros, three of them as a word.
 fn unit_words(zeros: u32) -> &'static str
     ensures { result.now ≡ unit_text zeros }
 {

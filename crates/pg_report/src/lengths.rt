@@ -45,7 +45,7 @@ pub(crate) fn offers_of<'a>(
     })
 }
 
-// Whether prices of a colour's travel exclude the games of so many plies.
+// Whether prices of a colour's travel exclude the games of `plies` plies.
 pub(crate) fn travel_excludes(diagram: &Diagram, plies: u8, offers: &Offers) -> bool
     ensures priced { IsTrue result → HasTravelPrices diagram.now plies offers.now.color }
     ensures barren { IsTrue result → Barren diagram.now array_state plies }
@@ -63,7 +63,7 @@ pub(crate) fn travel_excludes(diagram: &Diagram, plies: u8, offers: &Offers) -> 
     }
 }
 
-// Whether prices of a colour's pawns exclude the games of so many plies, as they do of any number.
+// Whether prices of a colour's pawns exclude the games of `plies` plies, as they do of any number.
 pub(crate) fn pawns_exclude(diagram: &Diagram, plies: u8, color: Color, lists: &Lists) -> bool
     ensures priced { IsTrue result → HasPawnPrices diagram.now color }
     ensures barren { IsTrue result → Barren diagram.now array_state plies }
@@ -77,7 +77,7 @@ pub(crate) fn pawns_exclude(diagram: &Diagram, plies: u8, color: Color, lists: &
     }
 }
 
-// Whether prices of a colour exclude the games of so many plies.
+// Whether prices of a colour exclude the games of `plies` plies.
 fn offers_exclude(diagram: &Diagram, plies: u8, offers: &Offers) -> bool
     ensures priced { IsTrue result → ArePriced diagram.now plies }
     ensures barren { IsTrue result → Barren diagram.now array_state plies }
@@ -86,7 +86,7 @@ fn offers_exclude(diagram: &Diagram, plies: u8, offers: &Offers) -> bool
         || pawns_exclude(diagram, plies, offers.color, &offers.pawns)
 }
 
-// Whether some bound of the list excludes every game of so many plies to the diagram.
+// Whether some bound of the list excludes every game of `plies` plies to the diagram.
 fn any_excludes(bounds: &[Box<dyn Bound>], diagram: &Diagram, plies: u8) -> bool
     ensures value { result ≡ list_any (λ b. excluded b diagram.now array_state plies) bounds.now }
     ensures barren { IsTrue result → Barren diagram.now array_state plies }
@@ -100,7 +100,7 @@ fn any_excludes(bounds: &[Box<dyn Bound>], diagram: &Diagram, plies: u8) -> bool
     false
 }
 
-// Whether prices exclude the games of so many plies, or a bound does. Bounds are asked last, since one may be dear.
+// Whether prices exclude the games of `plies` plies, or a bound does. Bounds are asked last, since one may be dear.
 fn is_excluded(
     bounds: &[Box<dyn Bound>],
     diagram: &Diagram,
@@ -137,11 +137,10 @@ pub(crate) fn first_open(
     None
 }
 
-/// The least number of plies such that neither a bound of the list nor prices exclude the games of so
-/// many plies from the initial array to the diagram; none where all lengths up to 128 plies are
-/// excluded. So no game of fewer plies ends on the diagram, whatever bounds the list holds. The prices
-/// are those of least assignments, of either colour's travel and pawns, each tested as a certificate's
-/// are. What finds them takes memory from `alloc`.
+/// The least number of plies such that neither a bound of the list nor prices exclude the games of that many plies from
+/// the initial array to the diagram; none where all lengths up to 128 plies are excluded. So no game of fewer plies
+/// ends on the diagram, whatever bounds the list holds. The prices are those of least assignments, of either colour's
+/// travel and pawns, each tested as a certificate's are. What finds them takes memory from `alloc`.
 ///
 /// # Errors
 /// `AllocError` where a growth was refused.

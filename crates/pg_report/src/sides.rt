@@ -35,7 +35,7 @@ pub(crate) struct Need {
     pub(crate) reason: Option<Reason>,
 }
 
-// Whether what a colour has to capture excludes games of so many plies.
+// Whether what a colour has to capture excludes games of `plies` plies.
 fn captures_exclude(diagram: &Diagram, plies: u8, color: Color) -> bool
     ensures { IsTrue result ↔ CapturesFor diagram.now array_state.board White plies color }
 {
@@ -58,7 +58,7 @@ fn files_exclude(diagram: &Diagram, color: Color) -> bool
     i32::from(owed(color, diagram, &array)) < i32::from(shift_need(color, diagram, &array))
 }
 
-// Whether the moves of a colour's nearest men exclude games of so many plies.
+// Whether the moves of a colour's nearest men exclude games of `plies` plies.
 fn needs_exclude(diagram: &Diagram, plies: u8, color: Color) -> bool
     ensures { IsTrue result ↔ TravelTest diagram.now array_state plies color }
 {
@@ -68,7 +68,7 @@ fn needs_exclude(diagram: &Diagram, plies: u8, color: Color) -> bool
     }
 }
 
-// The first reason why no game of so many plies from the array ends on the diagram, on account of one colour.
+// The first reason why no game of `plies` plies from the array ends on the diagram, on account of one colour.
 fn reason_of(diagram: &Diagram, plies: u8, offers: &Offers) -> Option<Reason>
     ensures binds { IfSome result (λ reason. Binds diagram.now plies offers.now.color reason) }
     ensures is_open { IfNone result (IsOpenFor diagram.now plies offers.now.color) }

@@ -99,7 +99,7 @@ fn last_mark(how: Naming) -> &'static str
     }
 }
 
-// What stands before the one with this number, from 0, of so many.
+// What stands before the one with this number, from 0, of `count`.
 fn mark(how: Naming, number: u8, count: u8) -> &'static str
     requires { number < 64 }
     ensures { result.now ≡ mark_text how number count }
@@ -113,8 +113,8 @@ fn mark(how: Naming, number: u8, count: u8) -> &'static str
     }
 }
 
-// Appends the name of a square behind its mark, where the set has it, and so many squares before it; how many it has
-// then.
+// Appends the name of a square behind its mark, where the set has it, and `before` squares before it; how many of its
+// squares are named then.
 fn write_place<W: Sink>(
     how: Naming,
     set: SquareSet,

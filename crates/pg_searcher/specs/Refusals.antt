@@ -3,7 +3,7 @@ use Rattle.std.specs.Prelude.{◌≡◌, ℕ, ◌<◌, Bool, true, Result, Ok, E
 use Rattle.pg_searcher.specs.declared.fault.SearchFault.{SearchFault}
 use Rattle.pg_searcher.specs.declared.fault.SearchFault.TheVariants.{Budget, Shorter, TooManyGames, Write, Memory}
 
--- what is said by an answer of a search for games of so many plies, where the sink has failed or not
+-- what is said by an answer of a search for games of `plies` plies, where the sink has failed or not
 abbrev pub RefusesTruly : {X : Type 0} → ℕ → Bool → Result X SearchFault → Type 0
 RefusesTruly plies failed (Ok x) = Unit {0}
 RefusesTruly plies failed (Err Budget) = Unit {0}

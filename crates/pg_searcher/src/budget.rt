@@ -1,6 +1,6 @@
 //! How many nodes a search may still visit.
 
-// So many nodes.
+// The nodes that may still be visited.
 #[derive(Clone, Copy)]
 pub(crate) struct Budget {
     pub(crate) nodes: u64,
@@ -16,7 +16,7 @@ impl Budget {
         true
     }
 
-    // Counts so many nodes, and answers whether all of them may be visited; else none is counted.
+    // Counts `count` nodes, and answers whether all of them may be visited; else none is counted.
     pub(crate) fn visit_all(&mut self, count: u64) -> bool {
         if self.nodes < count {
             return false;

@@ -4,7 +4,7 @@ use pg_tariffs::Tariffs;
 use pg_tolls::Tariff;
 use std::alloc::{AllocError, Global};
 
-// So many tariffs are chosen at most.
+// The most tariffs that are chosen.
 const MOST_CHOSEN: usize = 64;
 
 // How often each tariff has excluded a node, by its number.

@@ -106,8 +106,8 @@ pub(crate) fn is_near(squares: SquareSet) -> bool {
     2 <= count && count <= 4
 }
 
-// The men of the side to move of whom one may make a move that changes so many squares: two are the one that he leaves
-// and the one that he reaches, a third is emptied by a capture en passant, and castling changes four.
+// The men of the side to move of whom one may make a move that changes `squares` squares: two are the one that he
+// leaves and the one that he reaches, a third is emptied by a capture en passant, and castling changes four.
 fn movers(position: &Position, squares: u8) -> SquareSet {
     let board = position.board();
     let side = position.side();

@@ -8,7 +8,7 @@ pub enum SearchFault {
     /// A position more has to be visited than the limit allows, or who watches the search ends it.
     #[error("node limit reached")]
     Budget,
-    /// A game of fewer plies, so many, ends on the diagram.
+    /// A game of this number of plies, fewer than stated, ends on the diagram.
     #[error("a game of {0} plies reaches the diagram")]
     Shorter(u8),
     /// More games end on the diagram than a list holds.

@@ -83,8 +83,7 @@ impl Known {
         Ok(needs)
     }
 
-    // The needs with both least assignments. The prices of travel are kept where they exclude so many
-    // plies.
+    // The needs with both least assignments. The prices of travel are kept where they exclude `plies` plies.
     pub(crate) fn complete(
         &mut self,
         position: &Position,

@@ -28,6 +28,11 @@ impl<'a, P> Met<'a, P> {
             left: limit,
         }
     }
+
+    /// How many games are known.
+    pub fn count(&self) -> usize {
+        self.games.len()
+    }
 }
 
 impl<P: SearchProgress> SearchProgress for Met<'_, P> {

@@ -5,7 +5,7 @@ use pg_position::Move;
 
 /// Is told how far a search is, and may end it. Nothing else that it does changes what is found.
 pub trait SearchProgress {
-    /// The tree of so many plies is at work, and so many nodes more may be visited.
+    /// The tree of `plies` plies is at work, and `left` more nodes may be visited.
     fn reached(&mut self, plies: u8, left: u64);
 
     /// A game of the stated length that ends on the diagram was met: its moves. Each is told once, in canonical

@@ -69,7 +69,7 @@ fn trial_walk<P: SearchProgress>(
     walk_all(alloc, diagram, reach, asking, &mut Unkept, &mut again)
 }
 
-// Those of the tariffs that were found that are of use, and how many nodes were visited, of so many.
+// Those of the tariffs that were found that are of use, and how many nodes were visited, of `reach.max_nodes` at most.
 fn of_use<P: SearchProgress>(
     alloc: Global,
     diagram: &Diagram,

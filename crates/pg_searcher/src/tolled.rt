@@ -22,10 +22,10 @@ const LEAST_AFTER: u64 = 20;
 
 const MOST_AFTER: u64 = 8_000;
 
-// The next look at the same node comes when so many times as many nodes were visited below it.
+// How many times as many nodes are visited below the same node when the next look at it comes.
 const GROWTH: u64 = 4;
 
-// A step of a look is as dear as so many nodes: with journeys and without.
+// How many nodes a step of a look is as dear as: with journeys and without.
 const NODES_BY_JOURNEYS: u64 = 30;
 
 const NODES: u64 = 60;
@@ -40,8 +40,8 @@ struct Looks {
 }
 
 impl Looks {
-    // The next looks come later where those so far, of so many steps, were dearer than the nodes that were visited, of
-    // which so many are left; else sooner.
+    // The next looks come later where those so far, of `steps` steps, were dearer than the nodes that were visited,
+    // where `nodes` are left; else sooner.
     fn paced(self, steps: u64, nodes: u64) -> Looks {
         let visited = self.most_nodes.saturating_sub(nodes);
         let after = if steps.saturating_mul(self.step) > visited {
@@ -63,7 +63,7 @@ struct Since {
 }
 
 impl Since {
-    // How many nodes were visited since the node opened, where so many are left.
+    // How many nodes were visited since the node opened, where `nodes` are left.
     fn visited(&self, nodes: u64) -> u64 {
         self.opened.saturating_sub(nodes)
     }
@@ -89,8 +89,8 @@ const NO_NODE: Since = Since {
     after: u64::MAX,
 };
 
-// The tariffs of a search, and how it looks for new ones, if it does; and by the plies left when that is at the open
-// node with so many.
+// The tariffs of a search, and how it looks for new ones, if it does; and for each number of plies left, when it does
+// so at the open node with that number.
 #[derive(Drop)]
 pub(crate) struct Tolled {
     tariffs: Tariffs,
@@ -119,7 +119,7 @@ impl Tolled {
         Ok(Box::new(alloc, tolls)?)
     }
 
-    // Of no tariff yet, for a search of so many nodes that looks for them, by journeys or without.
+    // Of no tariff yet, for a search of `most_nodes` nodes that looks for them, by journeys or without.
     pub(crate) fn looking(
         alloc: Global,
         diagram: &Diagram,
@@ -153,7 +153,7 @@ impl Tolled {
         &self.tariffs
     }
 
-    // A node with `left` plies left opens while so many nodes may be visited.
+    // A node with `left` plies left opens while `nodes` nodes may be visited.
     pub(crate) fn opens(&mut self, left: u8, nodes: u64) {
         let after = match &self.looks {
             Some(looks) => looks.after,
@@ -165,7 +165,7 @@ impl Tolled {
         };
     }
 
-    // Whether a tariff is to be looked for at the open node with `left` plies left, while so many nodes may be visited.
+    // Whether a tariff is to be looked for at the open node with `left` plies left, while `nodes` nodes may be visited.
     pub(crate) fn is_due(&self, left: u8, nodes: u64) -> bool {
         let since = self.since[usize::from(left)];
         since.visited(nodes) >= since.after
@@ -207,7 +207,7 @@ impl Tolled {
         }
     }
 
-    // Whether a tariff excludes the open node with `left` plies left, while so many nodes may be visited: one that is
+    // Whether a tariff excludes the open node with `left` plies left, while `nodes` nodes may be visited: one that is
     // kept, of which some are newer than the node, or one that is found now and kept.
     pub(crate) fn look(
         &mut self,

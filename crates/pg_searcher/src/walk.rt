@@ -24,7 +24,7 @@ use pg_san::Games;
 // Each loop has a bound, and refuses the budget where it comes to it. None does: no position has 65,535 moves,
 // and no run takes 2^64 - 1 turns.
 
-// The frame of a node that opens with so many plies left.
+// The frame of a node that opens with `left` plies left.
 fn frame_of(judge: &Judge, opened: &Opened, left: u8) -> Frame {
     Frame {
         moves: LegalMoves::new(&opened.position),
@@ -60,7 +60,7 @@ fn close_top(frames: &Frames, machine: &mut Machine) -> Result<(), SearchFault>
 }
 
 // The nodes after the further moves of the man that moved last, with one ply left, are visited all at once, where he
-// stood off these squares and so many may be visited; else they are played one by one.
+// stood off these squares and all of them may be visited; else they are played one by one.
 fn expand_rest<W: Sink>(
     squares: SquareSet,
     moves: &mut LegalMoves,
@@ -85,7 +85,7 @@ fn expand_rest<W: Sink>(
 }
 
 // The nodes after all moves of a node with two plies left are visited at once, where no game ends on the diagram below
-// it and so many may be visited; whether they were is the answer.
+// it and all of them may be visited; whether they were is the answer.
 fn expand_all<W: Sink>(
     diagram: &Diagram,
     position: &Position,
@@ -409,7 +409,7 @@ fn turn<W: Sink>(
     }
 }
 
-// Tells of the games beyond so many, which were met since; how many there are now. They are met in
+// Tells of the games beyond the first `known`, which were met since; how many there are now. They are met in
 // canonical order.
 fn tell<P: SearchProgress>(games: &Games, known: usize, watch: &mut P) -> usize {
     for i in known..games.len() {

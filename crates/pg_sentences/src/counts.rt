@@ -33,6 +33,7 @@ fn write_cuts(tally: &Tally, text: &mut Sentence) {
         (tally.files, "by pawn files"),
         (tally.travel, "by travel"),
         (tally.journeys, "by journeys"),
+        (tally.tolls, "by tolls"),
         (tally.others, "by other bounds"),
         (tally.references, "by reference"),
     ];

@@ -6,7 +6,7 @@ use crate::numbers::Node;
 use crate::sentences::Sentence;
 use crate::travel::nowhere_name;
 use crate::words::write_excess;
-use pg_board::{Color, Kind, SquareSet};
+use pg_board::{Color, Kind, Square, SquareSet};
 
 // What stands before one of so many squares.
 fn joint(i: u8, count: u8) -> &'static str {
@@ -172,12 +172,18 @@ fn write_lack(lack: &Lack, text: &mut Sentence) {
     put_all(text, &[" (journeys)"]);
 }
 
+// That a pawn of the diagram on its home rank does not stand there any more.
+pub(crate) fn put_lost_pawn(square: Square, text: &mut Sentence) {
+    put_man(text, Kind::Pawn, square);
+    put_all(text, &[" of the diagram has left its square"]);
+}
+
 // What excludes a node.
 fn write_obstacle(obstacle: &Obstacle, text: &mut Sentence) {
     match obstacle {
         Obstacle::Wall(square) => {
-            put_man(text, Kind::Pawn, *square);
-            put_all(text, &[" of the diagram has left its square (journeys)"]);
+            put_lost_pawn(*square, text);
+            put_all(text, &[" (journeys)"]);
         }
         Obstacle::Captures(color, excess) => write_excess(*color, excess, text),
         Obstacle::Plans(lack) => write_lack(lack, text),

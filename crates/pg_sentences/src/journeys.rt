@@ -231,12 +231,18 @@ fn too_many(node: &Node) -> Option<Obstacle> {
     None
 }
 
+// The first pawn of the diagram on its home rank, White's first, that does not stand there.
+pub(crate) fn lost_pawn(node: &Node) -> Option<Square> {
+    match lost_wall(node, Color::White) {
+        Some(square) => Some(square),
+        None => lost_wall(node, Color::Black),
+    }
+}
+
 // What the bound by journeys excludes a node by; none where it does not.
 pub(crate) fn obstacle_of(node: &Node) -> Option<Obstacle> {
-    for color in [Color::White, Color::Black] {
-        if let Some(square) = lost_wall(node, color) {
-            return Some(Obstacle::Wall(square));
-        }
+    if let Some(square) = lost_pawn(node) {
+        return Some(Obstacle::Wall(square));
     }
     let Some(dead) = dead_color(node.diagram, node.position, node.left) else {
         return too_many(node);

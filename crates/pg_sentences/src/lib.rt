@@ -5,6 +5,7 @@
 mod counts;
 mod distances;
 mod ending;
+mod fares;
 mod journey_words;
 mod journeys;
 mod names;
@@ -14,12 +15,15 @@ pub mod phrases;
 mod prices;
 mod sentences;
 mod tally;
+mod toll_words;
+mod tolls;
 mod travel;
 mod words;
 
 pub use counts::{expanded, put_expanded, untold};
 pub use distances::{Distances, GrowingDistances};
 pub use ending::Ending;
+pub use fares::GrowingFares;
 pub use names::{put_all, put_number, put_things};
 pub use numbers::Node;
 pub use sentences::{

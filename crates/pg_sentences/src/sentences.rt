@@ -2,11 +2,13 @@
 
 use crate::distances::{Distances, GrowingDistances};
 use crate::ending::Ending;
+use crate::fares::GrowingFares;
 use crate::journey_words::write_journeys;
 use crate::names::{number_name, put_all};
 use crate::numbers::{Excess, Node, captures_of, files_of, promotions_of};
 use crate::phrases::{CUT_BY, ELSEWHERE, EXCLUDED, SOLUTION, UNSEEN};
 use crate::prices::reason_of_prices;
+use crate::toll_words::write_tolls;
 use crate::travel::travel_of;
 use crate::words::write_excess;
 use arrayvec::ArrayString;
@@ -138,10 +140,20 @@ fn excluded(code: u8, reason: Option<Sentence>) -> Sentence {
     text
 }
 
+// Why the bound with this code excludes a node, or the tariff that it names; none where it is not seen to.
+fn reason_by(fares: &mut GrowingFares<'_>, node: &Node, code: u8) -> Option<Sentence> {
+    let mut text = Sentence::new();
+    if write_tolls(fares, node, code, &mut text) {
+        Some(text)
+    } else {
+        reason(node, code)
+    }
+}
+
 // What is said of a record; a reference is told elsewhere, where its node is known.
-fn recorded(node: &Node, record: &Record) -> Sentence {
+fn recorded(fares: &mut GrowingFares<'_>, node: &Node, record: &Record) -> Sentence {
     match record {
-        Record::Cut(code) => excluded(*code, reason(node, *code)),
+        Record::Cut(code) => excluded(*code, reason_by(fares, node, *code)),
         Record::Priced {
             code,
             color,
@@ -157,12 +169,12 @@ fn said(words: &str) -> Sentence {
     text
 }
 
-/// What is said of a node that ends. No clause speaks of the words.
-pub fn ended(node: &Node, ending: &Ending) -> Sentence {
+/// What is said of a node that ends, where these tariffs stand before the certificate. No clause speaks of the words.
+pub fn ended(node: &Node, ending: &Ending, fares: &mut GrowingFares<'_>) -> Sentence {
     match ending {
         Ending::Leaf(true) => said(SOLUTION),
         Ending::Leaf(false) => said(ELSEWHERE),
-        Ending::Said(record) => recorded(node, record),
+        Ending::Said(record) => recorded(fares, node, record),
     }
 }
 

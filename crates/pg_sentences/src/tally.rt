@@ -1,5 +1,6 @@
 //! What the children of a node are.
 
+use crate::fares::number_of;
 use pg_captures::{Bound, Captures, Promotions};
 use pg_certificate::Bare;
 use pg_fen::Diagram;
@@ -21,6 +22,7 @@ pub struct Tally {
     pub files: u16,
     pub travel: u16,
     pub journeys: u16,
+    pub tolls: u16,
     pub others: u16,
     pub references: u16,
     pub played_out: u16,
@@ -28,24 +30,25 @@ pub struct Tally {
 }
 
 impl Tally {
-    // The number of the children that are cut by a bound with this code.
-    fn cut_by(&mut self, code: u8) -> &mut u16 {
+    // The number of the children that are cut by a bound with this code, where there are so many tariffs.
+    fn cut_by(&mut self, code: u8, tariffs: usize) -> &mut u16 {
         match code {
             Captures::CODE => &mut self.captures,
             Promotions::CODE => &mut self.promotions,
             PawnFiles::CODE => &mut self.files,
             Travel::CODE => &mut self.travel,
             Journeys::CODE => &mut self.journeys,
+            _ if number_of(code, tariffs).is_some() => &mut self.tolls,
             _ => &mut self.others,
         }
     }
 
-    /// Counts a move to a node with this record.
-    pub fn count(&mut self, said: &Bare) {
+    /// Counts a move to a node with this record, where so many tariffs stand before the certificate.
+    pub fn count(&mut self, said: &Bare, tariffs: usize) {
         self.moves = self.moves.saturating_add(1);
         let kind = match said {
             Bare::Expand { .. } => &mut self.lead,
-            Bare::Cut(code) | Bare::Priced { code, .. } => self.cut_by(*code),
+            Bare::Cut(code) | Bare::Priced { code, .. } => self.cut_by(*code, tariffs),
             Bare::Ref(_) => &mut self.references,
         };
         *kind = kind.saturating_add(1);
@@ -65,7 +68,7 @@ impl Tally {
     pub fn recount(&mut self, code: Option<u8>) {
         self.lead = self.lead.saturating_sub(1);
         let kind = match code {
-            Some(code) => self.cut_by(code),
+            Some(code) => self.cut_by(code, 0),
             None => &mut self.played_out,
         };
         *kind = kind.saturating_add(1);

@@ -15,7 +15,7 @@ room_of limited = left_of limited.room
 abbrev pub writer_of : {W : Type 0} → Limited W → W
 writer_of limited = limited.inner
 
--- what is left of a room after so many bytes more
+-- what is left of a room after `count` bytes more
 abbrev pub IsLeftAfter : Option ℕ → ℕ → Option ℕ → Type 0
 IsLeftAfter None count new = new ≡ None
 IsLeftAfter (Some left) count new = SomeIff new (count ≤ left) (left - count)

@@ -13,25 +13,41 @@ const TURNS: u32 = 1024;
 const PLACES: usize = 6;
 
 /// The milliseconds that a text of minutes says: decimal digits, and maybe a dot and digits behind it, of which the
-/// first six count, as in `5` and `0.5`. None for any other text, and for more than 2^64 - 1.
+/// first six count, as in `5` and `0.5`; and maybe a letter for a unit, `s` for seconds, `m` for minutes, `h` for hours,
+/// as in `90s`. None for any other text, and for more than 2^64 - 1.
 pub fn milliseconds_of(minutes: &str) -> Option<u64> {
-    let (whole, part) = match minutes.split_once('.') {
+    let (number, unit) = number_and_unit(minutes);
+    let (whole, part) = match number.split_once('.') {
         Some((whole, part)) => (whole, part),
-        None => (minutes, "0"),
+        None => (number, "0"),
     };
     if !are_digits(whole) || !are_digits(part) {
         return None;
     }
     let whole = whole.parse::<u64>().ok()?;
-    whole.checked_mul(60_000)?.checked_add(part_of(part))
+    whole.checked_mul(unit)?.checked_add(part_of(part, unit))
+}
+
+// What stands before the letter of a unit, and the milliseconds of that: of a minute where there is none.
+fn number_and_unit(text: &str) -> (&str, u64) {
+    if let Some(number) = text.strip_suffix('s') {
+        return (number, 1000);
+    }
+    if let Some(number) = text.strip_suffix('h') {
+        return (number, 3_600_000);
+    }
+    match text.strip_suffix('m') {
+        Some(number) => (number, 60_000),
+        None => (text, 60_000),
+    }
 }
 
 fn are_digits(text: &str) -> bool {
     !text.is_empty() && text.bytes().all(|byte| byte.is_ascii_digit())
 }
 
-// The milliseconds of a part of a minute, by the digits behind the dot.
-fn part_of(digits: &str) -> u64 {
+// The milliseconds of a part of a unit, which has `unit` of them, by the digits behind the dot.
+fn part_of(digits: &str, unit: u64) -> u64 {
     let mut millionths = 0u64;
     let mut place = 100_000u64;
     for byte in digits.bytes().take(PLACES) {
@@ -39,7 +55,7 @@ fn part_of(digits: &str) -> u64 {
         millionths = millionths.saturating_add(digit.saturating_mul(place));
         place /= 10;
     }
-    millionths.saturating_mul(60) / 1000
+    millionths.saturating_mul(unit) / 1_000_000
 }
 
 /// When the time of a run is over, if ever. A clock that cannot be read gives no end.

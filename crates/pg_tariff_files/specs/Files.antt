@@ -31,6 +31,10 @@ nothing = record { weights = []; tolls = [] }
 abbrev pub AreStated : List ℕ → (ℕ → Tariff) → ℕ → Type 0
 AreStated bytes tariffs n = (length bytes ≡ 130 * n) × ((i : ℕ) → i < n → IsAt bytes (130 * i) (tariffs i))
 
+-- these are the n tariffs that bytes state one after the other
+abbrev pub AreRead : List ℕ → List Told → ℕ → Type 0
+AreRead bytes tariffs n = (length tariffs ≡ n) × ((i : ℕ) → i < n → IsAt bytes (130 * i) (stated (get_or tariffs i nothing)))
+
 -- what stands before the certificate of a file that carries so many tariffs
 abbrev pub lead : ℕ → List ℕ → List ℕ
 lead n stated = codes "PGT1" ++ (n ∷ stated)

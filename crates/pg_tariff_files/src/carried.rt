@@ -52,7 +52,7 @@ fn are_magic(bytes: &[u8]) -> bool
     bytes == MAGIC.as_slice()
 }
 
-// The next bytes of a reader, so many; fewer only where no more are left.
+// The next `most` bytes of a reader; fewer only where no more are left.
 fn next<R: Read>(alloc: Global, reader: &mut R, most: usize) -> Result<Vec<u8>, CarriedFault>
     ensures bytes { IfOk result (λ bytes.
         Consumes (R.remaining reader.old) (R.remaining reader.new) bytes.items) }
@@ -84,7 +84,7 @@ fn read_number<R: Read>(alloc: Global, reader: &mut R) -> Result<u8, CarriedFaul
     }
 }
 
-// The bytes of so many tariffs, which stand next.
+// The bytes of `number` tariffs, which stand next.
 fn read_stated<R: Read>(alloc: Global, reader: &mut R, number: u8) -> Result<Vec<u8>, CarriedFault>
     ensures length { IfOk result (λ s. length s.items ≡ 130 * number) }
     ensures bytes { IfOk result (λ s. Consumes (R.remaining reader.old) (R.remaining reader.new) s.items) }

@@ -1,10 +1,11 @@
 //! A tariff as 130 bytes.
-ghost use Rattle.std.specs.Prelude.{◌≡◌, ◌≤◌, ◌*◌, ◌/◌, min, length, get_or};
+ghost use Rattle.std.specs.Prelude.{◌≡◌, ◌≤◌, ◌*◌, ◌/◌, min, length, get_or, IfOk};
 ghost use Rattle.pg_tolls.specs.Stated.{stated};
-ghost use Rattle.pg_tariff_files.specs.Files.{AreTolls, IsAt, signed};
+ghost use Rattle.pg_tariff_files.specs.Files.{AreRead, AreTolls, IsAt, signed};
 
 use pg_board::{Color, Square};
 use pg_tolls::Tariff;
+use std::alloc::{AllocError, Global};
 
 /// How many bytes state a tariff: White's weight, Black's, White's tolls from a1 to h1 and on to h8, and Black's tolls.
 /// A toll is a number with a sign, where a byte from 128 on is 256 less.
@@ -85,4 +86,18 @@ pub fn number_of(stated: &[u8]) -> u8
     ensures { result ≡ min (length stated.now / 130) 250 }
 {
     (stated.len() / BYTES).min(250) as u8
+}
+
+/// The tariffs that bytes state one after the other, `number_of` them, each as `tariff_at` has it.
+///
+/// # Errors
+/// Where memory is refused.
+pub fn tariffs_of(alloc: Global, bytes: &[u8]) -> Result<Vec<Tariff>, AllocError>
+    ensures { IfOk result (λ tariffs. AreRead bytes.now tariffs.items (min (length bytes.now / 130) 250)) }
+{
+    let mut tariffs = Vec::new(alloc);
+    for number in 0..number_of(bytes) {
+        tariffs.push(tariff_at(bytes, number))?;
+    }
+    Ok(tariffs)
 }

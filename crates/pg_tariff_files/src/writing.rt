@@ -24,7 +24,7 @@ pub fn stating_all(alloc: Global, tariffs: &[Tariff]) -> Result<Vec<u8>, AllocEr
     Ok(bytes)
 }
 
-/// Writes what stands before the certificate of a file that carries so many tariffs, which these bytes state.
+/// Writes what stands before the certificate of a file that carries `number` tariffs, which these bytes state.
 ///
 /// # Errors
 /// `Refused` where the sink refuses it.

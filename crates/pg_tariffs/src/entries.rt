@@ -7,7 +7,7 @@ use pg_position::Position;
 use pg_tolls::{Fares, Tariff, ground_of_walls};
 use std::alloc::{AllocError, Global};
 
-/// There is room for so many in rows of blocks.
+/// How many tariffs there is room for in rows of blocks.
 pub(crate) const MOST: usize = 256;
 
 /// A tariff, the tables of both colours, and at how many nodes it was the one that was found to exclude.

@@ -14,7 +14,7 @@ const WHOLE_PACE: i64 = 1_024;
 
 const LEAST_PACE: i64 = 102;
 
-// So many steps may bring nothing before the next ones are made smaller.
+// How many steps may bring nothing before the next ones are made smaller.
 const PATIENCE: u8 = 4;
 
 // How far steps go, of 1024 parts of a whole one: smaller and smaller ones where they bring nothing.

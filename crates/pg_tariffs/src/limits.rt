@@ -19,7 +19,7 @@ pub(crate) struct Limits {
     blocks: Vec<Block>,
 }
 
-// The first block of a side with so many plies left.
+// The first block of a side with `left` plies left.
 fn place_of(side: Color, left: u8) -> usize {
     let side = match side {
         Color::White => 0,
@@ -67,7 +67,7 @@ impl Limits {
         self.set_all(Color::Black, number, tariff);
     }
 
-    /// The limits of all tariffs for a side with so many plies left.
+    /// The limits of all tariffs for a side with `left` plies left.
     pub(crate) fn row(&self, side: Color, left: u8) -> &[Block] {
         let place = place_of(side, left);
         match self.blocks.get(place..place.saturating_add(WIDTH)) {

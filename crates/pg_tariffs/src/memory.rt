@@ -6,7 +6,7 @@ use std::alloc::{AllocError, Global};
 // How many slots the first entry makes.
 const FIRST_SLOTS: usize = 4_096;
 
-// There are at most so many rows, and their blocks take at most so many bytes.
+// The most rows, and the most bytes that their blocks take.
 const MOST_ROWS: usize = 262_144;
 
 const MOST_BYTES: usize = 25_165_824;

@@ -75,7 +75,7 @@ fn squares(numbers: &[i64; 64]) -> i64 {
     sum
 }
 
-// Tolls so many parts further along a gradient.
+// Tolls `by` parts further along a gradient.
 fn moved(tolls: &[i64; 64], along: &[i64; 64], by: i64) -> [i64; 64] {
     let mut moved = *tolls;
     for at in 0..64usize {

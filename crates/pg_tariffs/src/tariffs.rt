@@ -106,7 +106,7 @@ fn charge_of(
 }
 
 impl Tariffs {
-    /// So many tariffs are kept at most.
+    /// The most tariffs that are kept.
     pub const MOST: usize = 250;
 
     /// None, for the way to a diagram.
@@ -316,7 +316,7 @@ impl Tariffs {
         Ok(found)
     }
 
-    // The tariff that had the least to spare at the last node with so many plies left that none excluded.
+    // The tariff that had the least to spare at the last node with `left` plies left that none excluded.
     fn nearest(&self, left: u8) -> Option<Tariff> {
         let number = self.orders[usize::from(left)].get(0)?;
         match self.entries.get(number) {

@@ -30,7 +30,7 @@ abbrev pub AreRecords : List Record → Type 0
 AreRecords xs = All (λ x. IsRecordOf 1 x) xs
 
 -- ---- the number of records
--- so many records before the answer
+-- n records before the answer
 abbrev pub after_more : ℕ → Counted → Counted
 after_more zero answer = answer
 after_more (suc n) answer = one_more (after_more n answer)
@@ -168,7 +168,7 @@ stopped n most a b c old new source sink (UnknownRecord byte) copied few more h 
 stopped n most a b c old new source sink Budget copied few more h = stopped_with n most a b c old new Budget copied few more h
 
 -- ---- how many bytes are taken
--- at most so many of the known bytes are no longer left
+-- no more than `most` of the known bytes are gone
 abbrev pub Gone : ℕ → Known → Known → Type 0
 Gone most before after = IfSome before (λ bytes. IfSome after (λ rest. length bytes ≤ length rest + most))
 
@@ -200,7 +200,7 @@ few_spelled (x ∷ xs) are =
 pub few_copied : (n : ℕ) (a b old new : Known) → (copied : Copies n a b old new) → length (flat_map spelling copied.nodes) ≤ longest_record * n
 few_copied n a b old new copied = let few : length (flat_map spelling copied.nodes) ≤ longest_record * length copied.nodes = few_spelled copied.nodes copied.fit in omega (arith, few, copied.many)
 
--- a call after so many copied records takes few bytes in all
+-- a call after n copied records takes few bytes in all
 pub gone_copied : (n limit : ℕ) (a b left old new : Known) → Copies n a b old new → n ≤ limit → Gone 4096 b left → Gone (longest_record * limit + 4096) a left
 gone_copied n limit a b left old new copied few gone =
     gone_more a b left (flat_map spelling copied.nodes) (longest_record * n) 4096 (longest_record * limit + 4096) copied.taken (few_copied n a b old new copied) (omega (arith, few)) gone

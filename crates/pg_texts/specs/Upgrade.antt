@@ -56,13 +56,13 @@ abbrev pub one_more : Result ℕ UpgradeFault → Result ℕ UpgradeFault
 one_more (Ok n) = Ok (suc n)
 one_more (Err e) = Err e
 
--- how many records of version 1 the bytes are, of at most so many, or the first refusal
+-- how many records of version 1 the bytes are, no more than `most`, or the first refusal
 abbrev pub records_in : ℕ → List ℕ → Result ℕ UpgradeFault
 records_in most [] = Ok 0
 records_in zero (b ∷ rest) = Err Budget
 records_in (suc most) (b ∷ rest) = record_at 1 (b ∷ rest) >>= λ x. one_more (records_in most x.1)
 
--- how many records there are behind a header of version 1, of at most so many, or the first refusal
+-- how many records there are behind a header of version 1, no more than `most`, or the first refusal
 abbrev pub upgrade_of : ℕ → List ℕ → Result ℕ UpgradeFault
 upgrade_of most bytes = header_at bytes >>= λ x. if x.0.version == 1 then records_in most x.1 else Err NotVersion1
 
@@ -73,7 +73,7 @@ IsUpgradeFault answer known source sink Read = source ≡ true
 IsUpgradeFault answer known source sink Write = sink ≡ true
 IsUpgradeFault answer known source sink e = IfSome known (λ bytes. answer bytes ≡ Err e)
 
--- at most so many of the known bytes are no longer left in the source; a source that has failed does not tell
+-- no more than `most` of the known bytes are gone from the source; a source that has failed does not tell
 abbrev pub Takes : {A : Type 0} → ℕ → Option (List ℕ) → Option (List ℕ) → Result A UpgradeFault → Type 0
 Takes most before after (Err Read) = Unit {0}
 Takes most before after answer = IfSome before (λ bytes. IfSome after (λ rest. length bytes ≤ length rest + most))

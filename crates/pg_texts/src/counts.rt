@@ -19,7 +19,7 @@ fn write_number<W: Sink>(n: u64, out: &mut W) -> Result<(), Refused>
     out.push(b"\n")
 }
 
-/// Writes the number of games of so many plies, 0 to 8, from the position that a text of six fields
+/// Writes the number of games of `plies` plies, 0 to 8, from the position that a text of six fields
 /// spells, and a line feed. What the count needs is taken from `alloc`, and nothing is written before
 /// the number stands.
 ///

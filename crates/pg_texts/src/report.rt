@@ -134,7 +134,7 @@ fn append_report<W: Sink>(
     Ok(verdict)
 }
 
-/// Writes the report on a list of games to a diagram in so many plies, and answers its verdict. The
+/// Writes the report on a list of games of the stated length to a diagram, and answers its verdict. The
 /// report has these lines, each ended by a line feed: `diagram ` and the placement; `length ` and
 /// the length; `games ` and their number; the movetext of each game, in canonical order; then
 /// `sound`, `cooked` or `no game`. Takes no memory.

@@ -53,7 +53,7 @@ not_passed x p j s n off = go p.passed off
     go None h = refl
     go (Some u) h = ap (λ (b : Bool). cond (b && (nat_eq s (ahead x.color 1 u) && has x.free u)) (min n (get_or x.lost u 0 + 128 * j)) n) (h u refl)
 
--- what a man of a kind on r costs at a column, by a table for so many men of the diagram
+-- what a man of a kind on r costs at a column, by a table for `count` men of the diagram
 abbrev cost_by : List (List ℕ) → ℕ → ℕ → Kind → ℕ → ℕ → ℕ
 cost_by rows count j k r e = cond (ltb e count) (entry rows j k r e) (cond (kind_eq k King) 65535 (entry rows j k r 15))
 

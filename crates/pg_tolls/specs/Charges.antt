@@ -53,7 +53,7 @@ IsOverpriced t f d p k =
     (w : Plan f d p White) (b : Plan f d p Black) →
     budget t p k + spared t f d p White w + spared t f d p Black b < pays t f d p White w + pays t f d p Black b
 
--- the law: where facts hold and a tariff excludes by them, no game of so many plies ends on d
+-- the law: where facts hold and a tariff excludes by them, no game of k plies ends on d
 abbrev pub TariffLaw : Type 0
 TariffLaw = (t : Tariff) (f : Facts) (d : Placement) (p : State) (k : ℕ) → IsPosition p → FactsHold f d p k → IsOverpriced t f d p k → Barren d p k
 
@@ -76,6 +76,6 @@ IsLow t d p c None = (f : Facts) → AreOfWalls f d → Plan f d p c → ⊥
 IsLow t d p c (Some z) =
     (f : Facts) → AreOfWalls f d → (x : Plan f d p c) → (pos (spared t f d p c x) +ℤ z) ≤ℤ pos (pays t f d p c x)
 
--- the law: where the test holds, by whatever tariff, no game of so many plies ends on d
+-- the law: where the test holds, by whatever tariff, no game of k plies ends on d
 abbrev pub TollsBoundLaw : Type 0
 TollsBoundLaw = (t : Tariff) (d : Placement) (p : State) (k : ℕ) → IsPosition p → TollsHold t d p k → Barren d p k

@@ -103,7 +103,7 @@ fn split(column: usize, before: u16, behind: u16) -> Row
     row
 }
 
-// The columns for so many men of the diagram, and so many men.
+// The columns for `goals` men of the diagram, and `men` men.
 pub(crate) fn columns_of(goals: usize, men: usize) -> Columns
     ensures { AreColumnsOf result goals men }
 {

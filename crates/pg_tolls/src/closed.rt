@@ -121,7 +121,7 @@ fn is_promoted(color: Color, table: &[Row], marks: usize, pawns: &Rows) -> bool
         && is_promoted_to(color, table, marks, pawns, Kind::Queen)
 }
 
-// Whether the table is closed under the steps of a kind, no pawn, with so many marks left.
+// Whether the table is closed under the steps of a kind, no pawn, with `marks` marks left.
 fn is_piece_closed(
     tariff: &Tariff,
     ground: &Ground,
@@ -224,7 +224,7 @@ fn all_falls_fit(tariff: &Tariff, ground: &Ground, table: &[Row], marks: usize) 
         && falls_fit(tariff, ground, table, marks, Kind::Queen)
 }
 
-// Whether the rows with so many marks left are closed.
+// Whether the rows with `marks` marks left are closed.
 fn is_layer_closed(
     tariff: &Tariff,
     ground: &Ground,
@@ -248,7 +248,7 @@ fn is_layer_closed(
     are_steps_closed(tariff, ground, table, marks)
 }
 
-/// Whether a table for up to so many marks is closed.
+/// Whether a table for up to `most` marks is closed.
 pub(crate) fn is_closed(
     tariff: &Tariff,
     ground: &Ground,

@@ -13,7 +13,7 @@ use pg_fen::Diagram;
 use pg_journeys::{has_few, has_fewer, has_walls};
 use pg_position::Position;
 
-// What so many plies of a weight pay for.
+// What `plies` plies of a weight pay for.
 fn steps_paid(weight: u8, plies: u8) -> u32
     ensures value { result ≡ weight * plies }
     ensures low { result ≤ 65025 }

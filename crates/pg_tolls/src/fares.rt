@@ -37,8 +37,8 @@ pub struct Fares {
 }
 
 impl Fares {
-    /// The tables of a colour, by the ground of its steps: for positions where it owes at most so many captures, 16 at
-    /// most.
+    /// The tables of a colour, by the ground of its steps: for positions where it owes at most `owed` captures, or 16
+    /// where `owed` is more.
     ///
     /// # Errors
     /// Where memory is refused.

@@ -20,7 +20,7 @@ use pg_position::last_rank;
 use std::alloc::{AllocError, Global};
 use std::simd::u16x16;
 
-// The rows of each kind with so many marks left.
+// The rows of each kind for one number of marks left.
 #[derive(Drop)]
 struct Layer {
     pawns: Rows,
@@ -334,7 +334,7 @@ fn add_layer(table: &mut Vec<Row>, layer: &Layer) -> Result<(), AllocError>
     table.extend_from_slice(&layer.kings)
 }
 
-/// A table for up to so many marks.
+/// A table for up to `most` marks.
 pub(crate) fn fill(
     alloc: Global,
     tariff: &Tariff,

@@ -18,7 +18,7 @@ pub(crate) struct Half {
     pub(crate) rows: Vec<[u16; 16]>,
 }
 
-// The row of a man of a kind on a square who has so many marks left.
+// The row of a man of a kind on a square who has `marks` marks left.
 pub(crate) fn charges(half: &Half, marks: u8, kind: Kind, square: Square) -> [u16; 16]
     ensures { (e : ℕ) → get_or result e 0 ≡ entry half.now.rows.items marks kind square e }
 {

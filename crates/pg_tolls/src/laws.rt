@@ -10,12 +10,12 @@ pub fn accounts_law()
 {}
 
 /// The law of tariffs. Where facts hold and no plan of White and no plan of Black are charged together
-/// at most what the plies pay for, by whatever tariff, no game of so many plies ends on the diagram.
+/// at most what the plies pay for, by whatever tariff, no game of that many plies ends on the diagram.
 pub fn tariff_law()
     ensures { TariffLaw }
 {}
 
-/// The law of the bound by tolls: where the test holds, by whatever tariff, no game of so many plies
+/// The law of the bound by tolls: where the test holds for a number of plies, by whatever tariff, no game of that many
 /// ends on the diagram.
 pub fn tolls_bound_law()
     ensures { TollsBoundLaw }

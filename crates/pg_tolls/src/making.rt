@@ -102,7 +102,7 @@ pub(crate) fn half_of(
     })
 }
 
-// The half of a colour with a table for up to so many marks, which is not tested.
+// The half of a colour with a table for up to `most` marks, which is not tested.
 pub(crate) fn untested_half(
     alloc: Global,
     tariff: &Tariff,

@@ -122,7 +122,7 @@ pub(crate) fn taken(tariff: &Tariff, color: Color, rows: &Rows) -> Rows
     taken
 }
 
-/// The rows of a kind in a table, with so many marks left.
+/// The rows of a kind in a table, with `marks` marks left.
 pub(crate) fn rows_of(table: &[Row], marks: usize, kind: Kind) -> Rows
     requires marks { marks < 17 }
     requires room { (marks + 1) * 384 ≤ length table.now }

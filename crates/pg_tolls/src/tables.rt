@@ -24,7 +24,7 @@ fn look_at_tolls(tariff: &Tariff, color: Color)
     }
 }
 
-/// A table of the least charges of walks of a colour's men, for up to so many marks: by the marks that are left, the
+/// A table of the least charges of walks of a colour's men, for up to `most` marks: by the marks that are left, the
 /// kind and the square of a man, at `(marks * 6 + kind) * 64 + square`, a row with a number for each man of the
 /// diagram, and the last one for being captured. No closed table has higher numbers. It is empty where the test of it
 /// fails.
@@ -52,7 +52,7 @@ pub(crate) fn tables_of(
     }
 }
 
-/// The same table for up to so many marks, which is not tested.
+/// The same table for up to `most` marks, which is not tested.
 pub(crate) fn untested_tables(
     alloc: Global,
     tariff: &Tariff,

@@ -22,7 +22,7 @@ use pg_fen::Diagram;
 use pg_journeys::{charge, men_without, span};
 use pg_position::{Position, Wing};
 
-// The sum of the first so many numbers.
+// The sum of the first `count` numbers.
 pub(crate) fn sum(row: &Row, count: usize) -> u32
     requires { count ≤ 16 }
     ensures value { result ≡ total (λ i. get_or row.now i 0) count }

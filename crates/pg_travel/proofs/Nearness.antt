@@ -96,7 +96,7 @@ nearest_plain b c way Bishop t e = cc
 nearest_plain b c way Rook t e = cc
 nearest_plain b c way Queen t e = cc
 
--- each pawn's way to the last rank takes at least so many steps
+-- each pawn's way to the last rank takes at least `soonest` steps
 
 pub least_above : (f : ℕ → ℕ) (n x : ℕ) → x ≤ 64 → ((q : ℕ) → q < n → x ≤ f q) → x ≤ least_of f n
 unfolding least_of

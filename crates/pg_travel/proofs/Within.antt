@@ -142,7 +142,7 @@ sure_castled b d c w own moved castled same n is differ on both rest q l h =
     let off : (q ≡ king_target c w) ⊎ (q ≡ king_crossed c w) → ⊥ = (λ e. let there : has castled q ≡ true = (on q l).1 e in let none : not (has castled q) ≡ true = left.1 in cc) in
     cost_differs b d c (Some w) own moved q is differ l (sym (both q) ∙ left.0) (λ o e. uncounted (nat_eq o (king_home c)) (nat_eq o (rook_home c w)) (king_target c w) (king_crossed c w) o q (λ f. off (inl f)) (λ f. off (inr f)) e)
 
--- so many plies at least
+-- at least a ply for each square of the set
 cost_counted : (f : ℕ → ℕ) (set n : ℕ) → (has set n ≡ true → 1 ≤ f n) → count_below (has set) n ≤ total f n → (x : Bool) → has set n ≡ x → count_below (has set) (suc n) ≤ total f n + f n
 cost_counted f set n each before true e = let more : count_below (has set) (suc n) ≡ count_below (has set) n + one (has set n) = total-suc (λ k. one (has set k)) n in let z : one (has set n) ≡ 1 = ap one e in let y : 1 ≤ f n = each e in omega arith
 cost_counted f set n each before false e = let more : count_below (has set) (suc n) ≡ count_below (has set) n + one (has set n) = total-suc (λ k. one (has set k)) n in let z : one (has set n) ≡ 0 = ap one e in omega arith

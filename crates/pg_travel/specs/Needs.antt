@@ -74,6 +74,6 @@ TravelTest d p k c = ((v : ℕ) → ¬ HasValue d p c v) ⊎ ((n : ℕ) × IsNee
 unfoldable pub TravelHolds : Placement → State → ℕ → Type 0
 TravelHolds d p k = (c : Color) × TravelTest d p k c
 
--- where the test of a colour holds, no game of so many plies ends on d
+-- where the test of a colour holds, no game of k plies ends on d
 abbrev pub TravelLaw : Type 0
 TravelLaw = (p : State) (d : Placement) (c : Color) (k : ℕ) → IsPosition p → TravelTest d p k c → Barren d p k

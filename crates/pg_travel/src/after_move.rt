@@ -60,7 +60,7 @@ fn to_come_after(goal: &Board, board: &Board, color: Color, m: &Move) -> SquareS
     }
 }
 
-// Whether so many plies do not pay for castling by a right, by the men that are to come: a ply for each but those whom
+// Whether `plies` plies do not pay for castling by a right, by the men that are to come: a ply for each but those whom
 // castling may bring. And whether the right is not held.
 #[inline(always)]
 fn too_many_castled(
@@ -81,9 +81,9 @@ fn too_many_castled(
     }
 }
 
-// Whether so many plies pay for no way after the move, by the men that are to come: no row is read. Castling
-// brings two men at most that are to come, and costs a ply, so it need not be told where they are so many
-// more.
+// Whether `plies` plies pay for no way after the move, by the men that are to come: no row is read. Castling
+// brings two men at most that are to come, and costs a ply, so it need not be told where they are more than the plies
+// by two or above.
 #[inline(always)]
 fn too_many_to_come(goal: &Board, position: &Position, color: Color, m: &Move, plies: u16) -> bool
     ensures { IsTrue result → (q : State) → IsMoved position.now q color m.now → NonePays q goal.now color plies }
@@ -137,7 +137,7 @@ fn castled_above(
     }
 }
 
-// Whether so many plies pay for no way after the move, by rows.
+// Whether `plies` plies pay for no way after the move, by rows.
 #[inline(always)]
 fn rows_above(rows: &Rows, position: &Position, color: Color, m: &Move, plies: u16) -> bool
     requires { men color any_man rows.now ≤ 16 }

@@ -18,7 +18,7 @@ pub(crate) fn whole_board() -> Band
     Band { first: 0, past: 64 }
 }
 
-// Squares outside of which a pawn of the colour needs at least so many steps to its last rank.
+// Squares outside of which a pawn of the colour needs at least `steps` steps to its last rank.
 pub(crate) fn promoting(color: Color, steps: u8) -> Band
     ensures first { result.first ≤ 64 }
     ensures outside { (q : ℕ) → q < 64 → (q < result.first) ⊎ (result.past ≤ q) → steps ≤ soonest color q }

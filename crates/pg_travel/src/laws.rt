@@ -11,8 +11,8 @@ pub fn origins_law()
     ensures distances { DistancesLaw }
 {}
 
-/// The travel law. Where the need of a colour does not exist or is above its plies left, no game of
-/// so many plies ends on the placement.
+/// The travel law. Where the need of a colour does not exist or is above its plies left, no game of as many plies as
+/// are left ends on the placement.
 pub fn travel_law()
     ensures { TravelLaw }
 {}

@@ -167,7 +167,7 @@ pub(crate) fn cost_by(way: Option<Wing>, row: [u8; 16]) -> u16
     charge(way) + sum(row)
 }
 
-// Whether so many plies pay for a way.
+// Whether `plies` plies pay for a way.
 fn pays(
     rows: &Rows,
     board: &Board,
@@ -184,7 +184,7 @@ fn pays(
     cost_by(way, least(rows, board, color, way, away)) <= plies
 }
 
-// Whether so many plies do not pay for a way, where the men on these squares cost one each.
+// Whether `plies` plies do not pay for a way, where the men on these squares cost one each.
 #[inline(always)]
 pub(crate) fn too_many(sure: SquareSet, way: Option<Wing>, plies: u16) -> bool
     ensures { IsTrue result → (p : State) (d : Placement) (c : AColor) → CostsEach p.board d c way sure
@@ -217,7 +217,7 @@ pub(crate) fn castled(rows: &Rows, color: Color, wing: Wing, free: [u8; 16]) -> 
     lesser(king, rows.of(color, Kind::Rook, king_crossed(color, wing)))
 }
 
-// Whether so many plies pay for castling.
+// Whether `plies` plies pay for castling.
 #[inline(never)]
 fn pays_exactly(rows: &Rows, position: &Position, color: Color, wing: Wing, plies: u16) -> bool
     requires few { men color any_man rows.now ≤ 16 }
@@ -229,7 +229,7 @@ fn pays_exactly(rows: &Rows, position: &Position, color: Color, wing: Wing, plie
     pays(rows, &board, color, Some(wing), away, plies)
 }
 
-// Whether a right is held to castle so, and so many plies pay for it. Mostly they are too few even where
+// Whether a right is held to castle so, and `plies` plies pay for it. Mostly they are too few even where
 // king and rook count on both their squares.
 #[inline(always)]
 fn pays_castled(
@@ -257,7 +257,7 @@ fn pays_castled(
     }
 }
 
-// Whether so many plies pay for no way, by the men that are sure to cost one each: no row is read.
+// Whether `plies` plies pay for no way, by the men that are sure to cost one each: no row is read.
 fn far_off(rows: &Rows, position: &Position, color: Color, plies: u16) -> bool
     ensures free { IsTrue result → PaysIs position.now rows.now color None plies false }
     ensures short { IsTrue result → CastledIs position.now rows.now color KingSide plies false }

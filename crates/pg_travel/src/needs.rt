@@ -239,7 +239,7 @@ pub fn need(color: Color, diagram: &Diagram, position: &Position) -> Option<u16>
     Ways::new(color, diagram, position).need()
 }
 
-// Whether so many plies pay for a way.
+// Whether `plies` plies pay for a way.
 fn pays(position: &Position, diagram: &Diagram, color: Color, way: Option<Wing>, plies: u16) -> bool
     ensures { PaysIs position.now diagram.now color way plies result }
 {
@@ -249,7 +249,7 @@ fn pays(position: &Position, diagram: &Diagram, color: Color, way: Option<Wing>,
     }
 }
 
-// Whether a right is held to castle so, and so many plies pay for it.
+// Whether a right is held to castle so, and `plies` plies pay for it.
 fn pays_castled(
     position: &Position,
     diagram: &Diagram,

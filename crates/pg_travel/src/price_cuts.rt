@@ -42,7 +42,8 @@ fn way_excludes(
     fit_by(rows, &board, color, way, u, v)
 }
 
-// Whether a right is not held, or the list excludes castling by it.
+// Whether castling by a right is excluded as a way of the colour to the diagram: it may not castle to that wing any
+// more, or list `i` shows that its men need more plies than it has left even where king and rook castle so.
 fn castled_excludes(
     rows: &Rows,
     position: &Position,

@@ -53,7 +53,7 @@ fn stored(steps: u8) -> u8
     if steps == 64 { 255 } else { steps }
 }
 
-// No distance, where there are so many men and this is one of them.
+// No distance, where there are `count` men and this is the number of one of them.
 fn no_distance(number: u8, count: u8) -> u8
     ensures among { number < count → result ≡ 255 }
     ensures past { count ≤ number → result ≡ 0 }
@@ -61,7 +61,7 @@ fn no_distance(number: u8, count: u8) -> u8
     if number < count { 255 } else { 0 }
 }
 
-// A row without a distance to any of so many men.
+// A row without a distance to any of `count` men.
 #[inline(always)]
 pub(crate) fn unreached(count: u8) -> [u8; 16]
     ensures { IsUnreached count result }

@@ -16,7 +16,7 @@ use Rattle.pg_texts.specs.declared.fault.UpgradeFault.TheVariants.{Truncated, No
 use Rattle.pg_texts.specs.Upgrade.{Certificate1, certificate_bytes, IsUpgraded, with_digit_2, upgrade_of}
 
 -- bytes are upgraded exactly where they are a certificate of version 1
--- with at most so many records, and their number is the answer
+-- with no more than `most` records, and their number is the answer
 abbrev pub UpgradesExactly : Type 0
 UpgradesExactly =
     (most n : ℕ) (bytes : List ℕ) → AreBytes bytes
@@ -57,10 +57,10 @@ pub record IsLeftBehind (n : ℕ) (bytes rest : List ℕ) : Type 0 where
   pub parts : bytes ≡ certificate_bytes certificate ++ rest
   pub some : rest ≢ []
 
--- Where each refusal stands, of at most so many records. Truncated: fewer than 37 bytes, or
+-- Where each refusal stands, with no more than `most` records allowed. Truncated: fewer than 37 bytes, or
 -- less than a whole record behind fewer records than those. NotVersion1: 37 bytes or more
 -- that begin with no header of version 1. UnknownRecord: behind fewer records, the first byte
--- that no record of version 1 can have at its place. Budget: bytes behind so many records.
+-- that no record of version 1 can have at its place. Budget: bytes behind `most` records.
 pub record RefusesUpgrade (most : ℕ) (bytes : List ℕ) : Type 0 where
   pub truncated : (upgrade_of most bytes ≡ Err Truncated)
       ↔ ((length bytes < header_length)

@@ -4,8 +4,8 @@
 ghost use Rattle.pg_upgrade_laws.specs.UpgradeLaws.{CertifiedIsUpgraded, RefusesExactly, UpgradedIsCertified};
 ghost use Rattle.pg_upgrade_laws.specs.UpgradeLaws.{UpgradesExactly};
 
-/// Bytes are upgraded exactly where they are a header of version 1 and then at most so many records of
-/// version 1, and the answer is the number of these.
+/// Bytes are upgraded exactly where they are a header of version 1 and then no more records of version 1 than are
+/// allowed, and the answer is the number of these.
 pub fn upgrades_exactly()
     ensures { UpgradesExactly }
 {}

@@ -8,12 +8,21 @@ const ABOUT: &str = "Checks shortest proof games: whether a list holds every gam
 ends on a diagram, and no shorter game does";
 
 const EXAMPLE: &str = "Example, a problem by Schweig (1938):
-  pg search r1bqkbnr/ppp2ppp/3p4/8/8/8/PPPPPPPP/R1BQKBNR 4.0 s.pgc
-  pg answer s.pgc
+  pg solve r1bqkbnr/ppp2ppp/3p4/8/8/8/PPPPPPPP/R1BQKBNR 4.0
 
 Statuses: 0 sound, or a command done; 1 cooked, no game, not sound, a list or
 certificate refused, or a search that gave up; 2 bad words or texts; 3 out of
 memory; 4 a file that cannot be opened, created, read or written.";
+
+const SOLVE_EXAMPLE: &str =
+    "It looks for another game where the author's is given, for two games by drawn
+orders where none is, and through all games; what it finds is checked or tested.
+The report has the games, and last `sound`, `cooked`, `no game`, `not sound` or
+`not settled`. It ends at the second game, but with `--all`. Without LENGTH it
+takes that of the author's game, or the least one that has a game.
+
+Example:
+  pg solve r1bqkbnr/ppp2ppp/3p4/8/8/8/PPPPPPPP/R1BQKBNR 4.0";
 
 const SHOW_EXAMPLE: &str =
     "Below the board stand, for each side, its men, how many it captured, and how
@@ -173,6 +182,13 @@ const LENGTH: Word = Word {
     help: "In moves, 64.0 at most: 18.5 is 37 plies, 18 and 18.0 are 36",
 };
 
+// The length of `pg solve`, which may be missing.
+const LENGTH_SOLVED: Word = Word {
+    name: "LENGTH",
+    kind: Kind::TextOrNone,
+    help: "In moves, 64.0 at most: 18.5 is 37 plies",
+};
+
 // The length of `pg show`, which may be missing.
 const LENGTH_SHOWN: Word = Word {
     name: "LENGTH",
@@ -247,7 +263,7 @@ const NODES_LED: Word = Word {
 const NODES_TOLD: Word = Word {
     name: "nodes",
     kind: Kind::Limit("K", "20000", 0),
-    help: "Shows at most so many expanded nodes",
+    help: "The most expanded nodes that are shown",
 };
 
 // The nodes of `pg judge`.
@@ -260,14 +276,14 @@ const NODES_JUDGED: Word = Word {
 const MINUTES: Word = Word {
     name: "minutes",
     kind: Kind::Named("M"),
-    help: "Gives up after so many minutes, as 5 or 0.5",
+    help: "Gives up after M minutes, as 5 or 0.5, or 90s or 2h",
 };
 
 // The minutes of `pg judge`.
 const MINUTES_JUDGED: Word = Word {
     name: "minutes",
     kind: Kind::Named("M"),
-    help: "Gives up a problem after M, as 5 or 0.5",
+    help: "Gives up a problem after M, as 5, 90s or 2h",
 };
 
 const BYTES: Word = Word {
@@ -305,7 +321,7 @@ const REPLACED: Word = Word {
 const FOREIGN: Word = Word {
     name: "foreign",
     kind: Kind::NumberOrNone("D"),
-    help: "At most so many foreign moves, the last two plies apart",
+    help: "The most foreign moves, the last two plies apart",
 };
 
 // The fifth bound, where a certificate is written.
@@ -315,18 +331,18 @@ const JOURNEYS: Word = Word {
     help: "Cuts by the bound by journeys too: far fewer nodes",
 };
 
-// The fifth bound, where a certificate is read.
+// The fifth bound, where a certificate is checked against a list.
 const JOURNEYS_TAKEN: Word = Word {
     name: "journeys",
     kind: Kind::Flag,
     help: "Takes cuts by the bound by journeys too",
 };
 
-// The fifth bound, where problems are judged.
-const JOURNEYS_JUDGED: Word = Word {
+// The fifth bound, where problems are judged and where a certificate is read by itself: both go by it always.
+const JOURNEYS_ACCEPTED: Word = Word {
     name: "journeys",
     kind: Kind::Flag,
-    help: "Cuts by journeys too, where a search gives up",
+    help: "Changes nothing: journeys are asked always",
 };
 
 // Tariffs, where a certificate is written.
@@ -357,6 +373,34 @@ const GAMES_KEPT: Word = Word {
     help: "Keeps the games that it met, if any, also if it gives up",
 };
 
+// The author's game.
+const GAME: Word = Word {
+    name: "game",
+    kind: Kind::Named("MOVES"),
+    help: "The author's game, as one word",
+};
+
+// The file of the author's games.
+const GAMES_GIVEN: Word = Word {
+    name: "games",
+    kind: Kind::Named("FILE"),
+    help: "The author's games, one a line; -: standard input",
+};
+
+// The certificate of a problem that is solved.
+const KEPT: Word = Word {
+    name: "keep",
+    kind: Kind::Named("CERT"),
+    help: "Keeps the certificate that settles the problem",
+};
+
+// All games of a problem that is solved.
+const ALL: Word = Word {
+    name: "all",
+    kind: Kind::Flag,
+    help: "Goes on where two games are known, to find all",
+};
+
 // A command: its name, what it does, what stands below its help, and its words in their order.
 struct Entry {
     name: &'static str,
@@ -365,7 +409,24 @@ struct Entry {
     words: &'static [Word],
 }
 
-const COMMANDS: [Entry; 12] = [
+const COMMANDS: [Entry; 13] = [
+    Entry {
+        name: "solve",
+        about: "Says of one problem whether it is sound, with the games",
+        below: SOLVE_EXAMPLE,
+        words: &[
+            DIAGRAM,
+            LENGTH_SOLVED,
+            GAME,
+            GAMES_GIVEN,
+            KEPT,
+            ALL,
+            NODES_JUDGED,
+            MINUTES,
+            BYTES,
+            JOURNEYS_ACCEPTED,
+        ],
+    },
     Entry {
         name: "show",
         about: "Prints the board of a diagram, and what is known of it at once",
@@ -414,7 +475,7 @@ const COMMANDS: [Entry; 12] = [
         name: "answer",
         about: "Checks a certificate by itself, and prints the report of its games",
         below: ANSWER_EXAMPLE,
-        words: &[CERTIFICATE, RECORDS, JOURNEYS_TAKEN],
+        words: &[CERTIFICATE, RECORDS, JOURNEYS_ACCEPTED],
     },
     Entry {
         name: "search",
@@ -444,20 +505,20 @@ const COMMANDS: [Entry; 12] = [
             NODES_JUDGED,
             MINUTES_JUDGED,
             BYTES_JUDGED,
-            JOURNEYS_JUDGED,
+            JOURNEYS_ACCEPTED,
         ],
     },
     Entry {
         name: "why",
         about: "Explains a line of moves by a certificate",
         below: WHY_EXAMPLE,
-        words: &[CERTIFICATE, MOVES, RECORDS, JOURNEYS_TAKEN],
+        words: &[CERTIFICATE, MOVES, RECORDS, JOURNEYS_ACCEPTED],
     },
     Entry {
         name: "page",
         about: "Writes a page of HTML that shows a certificate",
         below: PAGE_EXAMPLE,
-        words: &[CERTIFICATE, RECORDS, NODES_TOLD, JOURNEYS_TAKEN],
+        words: &[CERTIFICATE, RECORDS, NODES_TOLD, JOURNEYS_ACCEPTED],
     },
     Entry {
         name: "upgrade",

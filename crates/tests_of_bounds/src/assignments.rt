@@ -50,7 +50,7 @@ fn costs(table: &Table, size: usize) -> Costs {
     Costs { size, rows }
 }
 
-// Whether tables are the same in so many rows and columns.
+// Whether tables are the same in the first `size` rows and columns.
 fn is_same(a: &Table, b: &Table, size: usize) -> bool {
     let size = size.min(16);
     let mut same = true;

@@ -35,7 +35,7 @@ fn is_excluded(
     bound.excludes(goal, position, left)
 }
 
-// That for each line, a placement and a number of plies, a tariff is found that excludes the array with so many left,
+// That for each line, a placement and a number of plies, a tariff is found that excludes the array with that many left,
 // and that it is then the one that excludes it.
 fn check_found(rt: &impl Abort, alloc: Global, table: &str) {
     let array = Position::array();
@@ -68,7 +68,7 @@ fn check_found(rt: &impl Abort, alloc: Global, table: &str) {
     }
 }
 
-// Diagrams that no game of so many plies from the array reaches.
+// Diagrams, each with a number of plies: no game of that many from the array reaches it.
 const DEAD: &str = "2kr2nr/1pp1b1p1/p3Pp1p/1b6/P1P4P/2K1P3/2n3P1/RNB2BNR 23
 2kr2n1/ppp1p3/3P1bpr/P3N2p/3p2b1/3PN1p1/2P1PP1P/R2QKB1R 29
 2k1b1nr/pp5p/5Pp1/2n1b3/1pP1P1P1/N6P/PR3KBR/2Br2N1 29

@@ -65,7 +65,7 @@ pub(crate) fn row_of<'a>(rt: &impl Abort, line: &'a str) -> Row<'a> {
     }
 }
 
-// That in each row the bound excludes the diagram from the position in so many plies, or does not.
+// That in each row the bound excludes the diagram from the position in the row's number of plies, or does not.
 pub(crate) fn check_bound<B: Bound>(rt: &impl Abort, bound: &B, table: &str) {
     for line in table.lines() {
         let row = row_of(rt, line);
@@ -115,7 +115,7 @@ fn says_after<B: Bound>(
     }
 }
 
-// That in each row the bound excludes the diagram from the position after a legal move in so many plies, or
+// That in each row the bound excludes the diagram from the position after a legal move in the row's number of plies, or
 // does not.
 pub(crate) fn check_after<B: Bound>(rt: &impl Abort, bound: &B, table: &str) {
     for line in table.lines() {

@@ -71,7 +71,7 @@ fn moves_of(rt: &impl Abort, wanted: &str) -> Option<u8> {
     }
 }
 
-// That each row's man comes to its square as such a man by so many moves, or never.
+// That each row's man comes to its square as such a man by the row's number of moves, or never.
 fn check_distances(rt: &impl Abort, table: &str) {
     for line in table.lines() {
         let (case, wanted) = line.split_once(" => ").expect(rt, line);
@@ -169,7 +169,7 @@ fn prices_of(rt: &impl Abort, text: &str) -> Prices {
     prices
 }
 
-// That in each row the prices of a colour exclude the diagram from the position in so many plies, or do not.
+// That in each row the prices of a colour exclude the diagram from the position in the row's plies, or do not.
 fn check_prices(rt: &impl Abort, table: &str) {
     for line in table.lines() {
         let row = row_of(rt, line);

@@ -231,7 +231,7 @@ fn check_read<R: Abort + AllocGlobal>(rt: &R, asked: &str, bytes: &[u8], at: u64
     assert_eq!(rt; said.as_str(), "Read", "{at}");
 }
 
-// Each of so many reads of a byte refuses in turn.
+// Each of `reads` reads of a byte refuses in turn.
 fn each_read_fails<R: Abort + AllocGlobal>(rt: &R, asked: &str, reads: u64) {
     let bytes = bytes_of(rt, asked);
     for at in 0..reads {

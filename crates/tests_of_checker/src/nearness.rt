@@ -69,7 +69,7 @@ fn pass_one_by_one(diagram: &Diagram, moves: &mut LegalMoves) -> bool {
     false
 }
 
-// The moves of a position of which so many were handed out.
+// The moves of a position of which `handed_out` were handed out.
 fn moves_past(position: &Position, handed_out: u64) -> LegalMoves {
     let mut moves = LegalMoves::new(position);
     for _ in 0..handed_out {

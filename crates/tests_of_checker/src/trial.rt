@@ -13,7 +13,7 @@ fn diagram(rt: &impl Abort, text: &str) -> Diagram {
     Diagram::read(text).expect(rt, text)
 }
 
-// Whether a bound excludes a diagram from a position with so many plies left.
+// Whether a bound excludes a diagram from a position with `left` plies left.
 fn excludes(rt: &impl Abort, bound: &impl Bound, goal: &str, from: &str, left: u8) -> bool {
     let position = read_position(from).expect(rt, from).position;
     bound.excludes(&diagram(rt, goal), &position, left)
@@ -78,7 +78,7 @@ fn a_fault_out_of_reach_reads_everything(rt: HostRuntime) {
     assert_eq!(rt; reader.into_inner().into_inner().len(), 0);
 }
 
-// A writer where no call fails takes those bytes and a flush, by so many calls; what it wrote to.
+// A writer where no call fails takes those bytes and a flush, by `calls` calls; what it wrote to.
 fn written<W: Write + Drop>(rt: &impl Abort, inner: W, calls: u64) -> W {
     let mut writer = FailsAt::new(inner, 400, ErrorKind::Other);
     writer.write_all(&some_bytes()).expect(rt, "writes on");

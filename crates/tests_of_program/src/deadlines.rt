@@ -36,7 +36,14 @@ const MINUTES: &str = "0 0
 0.000016 0
 0.000017 1
 2.5000009 150000
-307445734561825 18446744073709500000";
+307445734561825 18446744073709500000
+90s 90000
+0.25s 250
+0.0019s 1
+1.5m 90000
+2h 7200000
+0.5h 1800000
+5124095576030h 18446744073708000000";
 
 // Texts that are no minutes.
 const NO_MINUTES: &str = "
@@ -45,9 +52,15 @@ const NO_MINUTES: &str = "
 -1
 1,5
 307445734561826
-18446744073709551616";
+18446744073709551616
+s
+5ms
+5S
+5 s
+5d
+5124095576031h";
 
-// A text is so many minutes.
+// The minutes that the text of a row tells are the row's milliseconds.
 fn check_minutes(rt: &impl Abort, row: &str) {
     let found = milliseconds_of(word(row, 0)).expect(rt, row);
     assert_eq!(rt; found, number(rt, word(row, 1)), "{row}");

@@ -245,7 +245,7 @@ fn check_not_made<R: Runtime + Abort + AllocGlobal>(rt: &R, path: &str, wanted: 
     assert_eq!(rt; to_text(rt, obstacle).as_str(), wanted);
 }
 
-// That a folder is there, with so many names in it.
+// That a folder is there, with `wanted` names in it.
 fn check_made<R: Runtime + Abort + AllocGlobal>(rt: &R, path: &str, wanted: usize) {
     assert!(rt; make_folder(rt, path).is_ok(), "{path}");
     check_count(rt, path, wanted);

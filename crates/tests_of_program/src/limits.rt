@@ -1,4 +1,4 @@
-//! A writer that takes so many bytes at most.
+//! A writer that takes no more bytes than a limit.
 
 use pg_certificate::{Sink, ToWrite};
 use pg_streams::Limited;

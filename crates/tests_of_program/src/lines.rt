@@ -43,7 +43,7 @@ impl Eprint for Desk {
     }
 }
 
-// One read of a source for a byte, which gives so many.
+// One read of a source for a byte, which gives `wanted` bytes.
 fn check_pull<S: Source>(rt: &impl Abort, source: &mut S, wanted: usize) {
     let mut buffer = [0u8; 1];
     assert_eq!(rt; source.pull(&mut buffer).expect(rt, "a read"), wanted);

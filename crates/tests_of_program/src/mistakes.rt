@@ -176,7 +176,7 @@ fn games_by_their_index(rt: HostRuntime) {
     }
 }
 
-// The first byte that is no text stands in this line, as so many of it; both are 0 where all is text.
+// The first byte that is no text stands in this line, as its byte of this number; both are 0 where all is text.
 fn check_bytes(rt: &impl Abort, bytes: &[u8], line: usize, byte: usize) {
     let none = Place { line: 0, byte: 0 };
     let place = bad_byte(bytes).unwrap_or(none);

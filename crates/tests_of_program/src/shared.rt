@@ -3,7 +3,7 @@
 use pg_files::Obstacle;
 use std::process::Abort;
 
-// So many times a byte.
+// A byte, `times` times.
 pub(crate) fn repeated<R: Abort + AllocGlobal>(rt: &R, byte: u8, times: usize) -> Vec<u8> {
     let mut bytes = Vec::new(rt.alloc());
     for _ in 0..times {

@@ -103,7 +103,7 @@ fn check_lengths<R: Abort + AllocGlobal>(rt: &R, text: &[u8], before: usize, cou
     }
 }
 
-// The same of texts about as long as the room, which is 4,096 bytes, behind so many bytes.
+// The same of texts about as long as the room, which is 4,096 bytes, behind `before` bytes.
 fn check_behind<R: Abort + AllocGlobal>(rt: &R, text: &[u8], before: usize) {
     for count in [0, 1, 2, 4095, 4096, 4097, 8193] {
         check_lengths(rt, text, before, count);

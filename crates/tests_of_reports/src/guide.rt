@@ -4,6 +4,7 @@ mod cuts;
 mod growths;
 mod lines;
 mod refusals;
+mod tolls;
 
 use crate::shared::{
     MANY, Said, bounds_for, certificate, diagram_of, field, halves, length_of, lines_of,
@@ -35,6 +36,7 @@ fn explain<R: Abort + AllocGlobal, S: Source, W: Sink>(
         rt.alloc(),
         &mut opened,
         moves,
+        &[],
         &bounds,
         source,
         out,

@@ -3,6 +3,7 @@ ghost use Rattle.pg_judge.specs.Ruling.{IsFindingOf};
 
 mod faults;
 mod growing;
+mod reports;
 mod rows;
 mod scratches;
 mod standing;
@@ -23,6 +24,14 @@ fn entry_of<'a, R: Abort + AllocGlobal>(rt: &R, line: &'a str) -> Entry<'a> {
     }
 }
 
+// Limits of this many nodes, within which one search is enough that meets two games.
+fn nodes(max_nodes: u64) -> Limits {
+    Limits {
+        max_nodes,
+        enough: Enough::OneSearch,
+    }
+}
+
 // The row of a ruling, as a text in which bars stand for tabs.
 fn row_of<R: Abort + AllocGlobal>(rt: &R, entry: &Entry<'_>, ruling: &Ruling, old: Old) -> String
     requires { IsFindingOf entry.now ruling.now.finding }
@@ -35,6 +44,23 @@ fn row_of<R: Abort + AllocGlobal>(rt: &R, entry: &Entry<'_>, ruling: &Ruling, ol
         .expect(rt, "memory")
 }
 
+// What is found of a problem within limits, by its first searches.
+fn ruling_of<R: Abort + AllocGlobal, S: Scratch, P: JudgeProgress>(
+    rt: &R,
+    entry: &Entry<'_>,
+    limits: Limits,
+    scratch: &mut S,
+    watch: &mut P,
+) -> Ruling
+    ensures { IsFindingOf entry.now result.finding }
+{
+    let bounds = five_bounds(rt);
+    match judge(rt.alloc(), entry, bounds.as_slice(), limits, scratch, watch) {
+        Ok(ruling) => ruling,
+        Err(pending) => pending.ruling(entry),
+    }
+}
+
 // Judges a problem within limits, and tells a watch.
 fn ruled<R: Abort + AllocGlobal, S: Scratch, P: JudgeProgress>(
     rt: &R,
@@ -44,14 +70,6 @@ fn ruled<R: Abort + AllocGlobal, S: Scratch, P: JudgeProgress>(
     watch: &mut P,
 ) -> String {
     let entry = entry_of(rt, line);
-    let bounds = five_bounds(rt);
-    let ruling = judge(
-        rt.alloc(),
-        &entry,
-        bounds.as_slice(),
-        limits,
-        scratch,
-        watch,
-    );
+    let ruling = ruling_of(rt, &entry, limits, scratch, watch);
     row_of(rt, &entry, &ruling, Old::Absent)
 }

@@ -3,6 +3,7 @@
 mod bytes;
 mod numbers;
 mod refusals;
+mod tolls;
 mod trees;
 
 use crate::shared::{
@@ -33,6 +34,7 @@ fn show<R: Abort + AllocGlobal, S: Source, W: Sink>(
         rt.alloc(),
         &mut opened,
         nodes,
+        &[],
         &bounds,
         source,
         out,

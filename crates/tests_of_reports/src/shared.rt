@@ -2,6 +2,7 @@
 //! fields of a case, an arrow what is asked from what is answered, and a dollar stands for the end of a line.
 
 use arrayvec::ArrayString;
+use pg_board::Square;
 use pg_captures::{Bound, Captures, Promotions};
 use pg_certificate::Source;
 use pg_checker::{OpenFault, Opened, Problem, open};
@@ -9,6 +10,7 @@ use pg_fen::{Diagram, Length};
 use pg_journeys::Journeys;
 use pg_pawns::PawnFiles;
 use pg_report::AnswerRunFault;
+use pg_tolls::Tariff;
 use pg_travel::Travel;
 use pg_trial::append_spelled;
 use std::fmt::{Debug, Display, Write};
@@ -184,4 +186,47 @@ pub(crate) fn bounds_for<R: Abort + AllocGlobal>(rt: &R, word: &str) -> Vec<Box<
         return five_bounds(rt);
     }
     four_bounds(rt)
+}
+
+// The square of a name such as `e4`.
+fn square_of(rt: &impl Abort, name: &str) -> Square {
+    let mut bytes = name.bytes();
+    let file = bytes.next().unwrap_or(0).wrapping_sub(b'`');
+    let rank = bytes.next().unwrap_or(0).wrapping_sub(b'0');
+    Square::new(file, rank).expect(rt, name)
+}
+
+// Tolls with the one that a square and a number spell, as `e4=-9`.
+fn with_toll(rt: &impl Abort, tolls: [i8; 64], word: &str) -> [i8; 64] {
+    let (name, number) = halves(rt, word, "=");
+    let square = square_of(rt, name);
+    let toll = number.parse::<i8>().expect(rt, word);
+    let mut all = tolls;
+    all[usize::from(square.index())] = toll;
+    all
+}
+
+// The tariff of a text such as `14 12 We4=-9 Bd5=7`: the weights of White and of Black, and tolls; others are 0.
+pub(crate) fn tariff_of(rt: &impl Abort, text: &str) -> Tariff {
+    let mut words = text.split(' ');
+    let first = words.next().expect(rt, text);
+    let second = words.next().expect(rt, text);
+    let mut white = [0i8; 64];
+    let mut black = [0i8; 64];
+    for word in words {
+        if let Some(toll) = word.strip_prefix('W') {
+            let next = with_toll(rt, white, toll);
+            white = next;
+        } else if let Some(toll) = word.strip_prefix('B') {
+            let next = with_toll(rt, black, toll);
+            black = next;
+        }
+    }
+    Tariff {
+        weights: [
+            first.parse::<u8>().expect(rt, text),
+            second.parse::<u8>().expect(rt, text),
+        ],
+        tolls: [white, black],
+    }
 }

@@ -4,6 +4,7 @@
 
 mod journeys;
 mod longest;
+mod tolls;
 
 use crate::shared::{Said, diagram_of, field, halves, named, words};
 use pg_board::Color;

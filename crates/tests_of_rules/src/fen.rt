@@ -13,7 +13,8 @@ const ARRAY: &str = "rnbqkbnr/pppppppp/8/8/8/8/PPPPPPPP/RNBQKBNR";
 
 const KINGS: &str = "4k3/8/8/8/8/8/8/4K3";
 
-// That a text is read as a length of so many plies that is written so, or refused by a fault that is shown so.
+// That a text is read as a length of the plies that are wanted, which is written as wanted, or refused by a fault that
+// is shown as wanted.
 fn check_length(rt: &impl Abort, text: &str, wanted: &str) {
     match Length::read(text) {
         Ok(length) => check_plies(rt, text, length, wanted),
@@ -21,7 +22,7 @@ fn check_length(rt: &impl Abort, text: &str, wanted: &str) {
     }
 }
 
-// That a length has so many plies, and is written so.
+// That a length has the plies that are wanted, and is written as wanted.
 fn check_plies(rt: &impl Abort, text: &str, length: Length, wanted: &str) {
     let (plies, written) = wanted.split_once(' ').expect(rt, text);
     check_text(rt, text, digits(length.plies() as usize).as_str(), plies);

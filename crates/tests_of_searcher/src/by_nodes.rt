@@ -138,7 +138,7 @@ fn few_more(state: &mut u64) -> u8 {
     drawn(state, 6).min(5).saturating_sub(3) as u8
 }
 
-// A game that begins with these moves, and has so many more, or fewer where none is legal.
+// A game that begins with these moves, and has `plies` plies more, or fewer where none is legal.
 fn drawn_game<R: Abort + AllocGlobal>(rt: &R, begun: &str, plies: u64, state: &mut u64) -> Walk {
     let mut walk = Walk {
         game: Vec::new(rt.alloc()),

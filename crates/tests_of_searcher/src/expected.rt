@@ -11,7 +11,7 @@ after-e4-e5 | 1.0 | 0 | 0
 after-e4-e5 | 0.5 | 0 | -
 rnbq1rk1/ppppppbp/5np1/8/8/5NP1/PPPPPPBP/RNBQ1RK1 | 4.5 | 1 | 0";
 
-// Whether a colour has so many plies to spare, as a text says.
+// Whether a colour has as many plies to spare as a text says.
 fn is_said(slack: Option<u8>, text: &str) -> bool {
     slack == text.parse().ok()
 }

@@ -36,7 +36,7 @@ fn asked_by<R: Abort + AllocGlobal>(rt: &R, text: &str) -> Asked {
     }
 }
 
-// Limits of so many nodes, and so many foreign moves, where that is told.
+// Limits of `nodes` nodes, and of `foreign` foreign moves, where that is a number.
 fn limits_of(nodes: u64, foreign: &str) -> LedLimits {
     LedLimits {
         max_nodes: nodes,
@@ -85,7 +85,7 @@ fn answer<P: LedProgress>(
     told(rt, asked, &answer)
 }
 
-// What is answered to games that lead, with so many nodes and foreign moves.
+// What is answered to games that lead, with `nodes` nodes and `foreign` foreign moves.
 fn answered<R: Abort + AllocGlobal>(rt: &R, games: &str, nodes: u64, foreign: &str) -> Said {
     let asked = asked_by(rt, games);
     let limits = limits_of(nodes, foreign);

@@ -63,7 +63,7 @@ fn is_before_promotion(position: &Position) -> bool {
     false
 }
 
-// The position after so many moves by chance.
+// The position after `plies` moves by chance.
 fn wander(
     rt: &impl Abort,
     alloc: Global,

@@ -123,7 +123,7 @@ fn count_of(answer: &Result<Games, SearchFault>) -> Said {
     }
 }
 
-// How many games a search of so many nodes finds that tells of itself, or the fault.
+// How many games a search of `nodes` nodes finds that tells of itself, or the fault.
 fn watched<R: Abort + AllocGlobal, P: SearchProgress>(
     rt: &R,
     goal: &Goal,
@@ -135,7 +135,7 @@ fn watched<R: Abort + AllocGlobal, P: SearchProgress>(
     count_of(&search_watched(rt.alloc(), diagram, length, nodes, &mut sink, watch))
 }
 
-// The games and the certificate, which has been checked, or the fault of a search of so many nodes.
+// The games and the certificate, which has been checked, or the fault of a search of `nodes` nodes.
 fn settled<R: Abort + AllocGlobal>(rt: &R, goal: &Goal, nodes: u64) -> Result<Found, SearchFault> {
     let mut sink = ToWrite::new(Vec::new(rt.alloc()));
     match searched(rt.alloc(), goal, nodes, &mut sink) {

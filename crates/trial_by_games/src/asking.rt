@@ -33,7 +33,7 @@ pub(crate) fn ask_journeys(game: &Game, number: u64, tally: &mut Tally) -> Resul
     Ok(())
 }
 
-// What so many plies pay for by a tariff.
+// What `left` plies pay for by a tariff.
 fn paid(tariff: &Tariff, position: &Position, left: u8) -> i64 {
     let white = plies_left(position.side(), Color::White, left);
     let black = plies_left(position.side(), Color::Black, left);

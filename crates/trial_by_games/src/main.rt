@@ -1,5 +1,5 @@
-//! Tries the bounds by journeys and by tolls with games: `trial_by_games GAMES PLIES` plays so many games of up to so
-//! many plies from the initial array, each move drawn by a fixed rule, and asks each bound of each position of a game
+//! Tries the bounds by journeys and by tolls with games: `trial_by_games GAMES PLIES` plays GAMES games of up to PLIES
+//! plies from the initial array, each move drawn by a fixed rule, and asks each bound of each position of a game
 //! with the plies that are left of it and the diagram of its end. None may be excluded. Captures, promotions and
 //! castling are drawn more often than other moves. The bound by tolls is asked by two tariffs a game: a drawn one, and
 //! one with tolls where the game captures alone. Prints how many positions were asked of each, and at how many the
@@ -8,7 +8,7 @@
 //!
 //! `trial_by_games trees FILE NODES` asks a tariff at the nodes of search trees. A line of the file has a placement, a
 //! length such as `13.0`, and the two weights and 128 tolls of a tariff. The tree of games of that length is walked
-//! depth first, up to so many nodes, and not below those that a cheap bound or the tariff excludes. Prints for each
+//! depth first, up to NODES nodes, and not below those that a cheap bound or the tariff excludes. Prints for each
 //! tree, and for all together, how many nodes there were, of how many the tariff was asked, how many it excluded, and
 //! how many games to the placement were met. `trial_by_games GAMES PLIES FILE NODES` is the first trial and then that
 //! last line.
@@ -46,7 +46,7 @@ fn ask_tariffs(
     ask_tariff(alloc, &tight, game, number, tally)
 }
 
-// Plays so many games and asks of all their positions. Tariffs are drawn apart from moves.
+// Plays `games` games and asks of all their positions. Tariffs are drawn apart from moves.
 fn ask_games(alloc: Global, games: u64, plies: usize) -> anyhow::Result<Tally> {
     let mut dice = Dice::new(1);
     let mut tariff_dice = Dice::new(2);
@@ -60,7 +60,7 @@ fn ask_games(alloc: Global, games: u64, plies: usize) -> anyhow::Result<Tally> {
     Ok(tally)
 }
 
-// Plays so many games of up to so many plies, and prints what was asked of them.
+// Plays `games` games of up to `plies` plies, and prints what was asked of them.
 fn print_games(rt: &HostRuntime, games: &str, plies: &str) -> anyhow::Result<()> {
     let (Ok(games), Ok(plies)) = (games.parse(), plies.parse()) else {
         return Err(Refusal::Usage)?;

@@ -45,7 +45,7 @@ fn captured_on(color: Color, before: &Position, after: &Position, to: Square) ->
     }
 }
 
-// Plays so many plies, or fewer where no move is legal.
+// Plays `plies` plies, or fewer where no move is legal.
 pub(crate) fn play_game(alloc: Global, dice: &mut Dice, plies: usize) -> Result<Game, AllocError> {
     let mut positions = Vec::new(alloc);
     let mut white = SquareSet::empty();

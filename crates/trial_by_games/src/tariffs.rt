@@ -13,7 +13,7 @@ fn weight(dice: &mut Dice) -> u8 {
     u8::try_from(drawn).unwrap_or(0)
 }
 
-// Tolls up to so much, of either sign: each square has one with a chance of one in so many.
+// Tolls up to `most`, of either sign: each square has one with a chance of one in `rarity`.
 fn drawn_tolls(dice: &mut Dice, most: i16, rarity: usize) -> [i8; 64] {
     let mut tolls = [0i8; 64];
     for at in 0..64usize {

@@ -55,7 +55,7 @@ fn add_children(
 }
 
 // Walks the tree of a problem's length, depth first from the initial array and in the order of the legal moves, up to
-// so many nodes. Bounds are asked where a ply is left.
+// `nodes` nodes. Bounds are asked where a ply is left.
 pub(crate) fn walk(alloc: Global, problem: &Problem, nodes: u64) -> Result<Tree, AllocError> {
     let goal = &problem.diagram;
     let rows = Rows::new(goal);

@@ -1,13 +1,13 @@
 //! Tries the checker with certificates, lists and limits that were made wrong by a fixed rule.
 //! `trial_by_mutation NAME MUTANTS ..` reads the cases of these names, whose certificates must be
-//! accepted, and makes so many mutants of each: bytes changed, put in or taken out, records left out,
-//! put in twice, swapped, taken from another case or made references or cuts, certificates spliced, all
-//! that is left cut, nodes named or not, games left out or added, another length, lower limits. Each
-//! check must return. A yes must come with the list that is known to be exact alone, and within the
-//! limits; a game that is told must be one that is missing. One byte a call must give the same answer,
-//! and where a read fails, that answer or `Read`. Prints how often each answer came, the same at each
-//! run; the answers where a read fails are counted apart. Anything else ends with a line on standard
-//! error and status 1.
+//! accepted, and makes MUTANTS mutants of each: bytes changed, put in or taken out, records left
+//! out, put in twice, swapped, taken from another case or made references or cuts, certificates
+//! spliced, all that is left cut, nodes named or not, games left out or added, another length,
+//! lower limits. Each check must return. A yes must come with the list that is known to be exact
+//! alone, and within the limits; a game that is told must be one that is missing. One byte a call
+//! must give the same answer, and where a read fails, that answer or `Read`. Prints how often each
+//! answer came, the same at each run; the answers where a read fails are counted apart. Anything
+//! else ends with a line on standard error and status 1.
 #![tactic(auto)]
 
 mod case;

@@ -78,7 +78,7 @@ HeaderTakes before after left (Ok version) = IfSome before (λ bytes. IfSome aft
 HeaderTakes before after left (Err fault.Read) = Unit {0}
 HeaderTakes before after left (Err e) = IfSome before (λ bytes. IfSome left (λ rest. length bytes ≤ length rest + (4096 + header_length)))
 
--- the walk takes so many of the known bytes, or one buffer more is not left
+-- the walk takes up to `most` of the known bytes, or one buffer more is not left
 abbrev pub WalkTakes : ℕ → Option (List ℕ) → Option (List ℕ) → Result Proved Stop → Type 0
 WalkTakes most before left (Err stop.Read) = Unit {0}
 WalkTakes most before left answer = IfSome before (λ bytes. IfSome left (λ rest. length bytes ≤ length rest + (4096 + most)))

@@ -56,7 +56,7 @@ abbrev pub refer_answer : ℕ → Option (tree.Entry State) → ℕ → State �
 refer_answer version None k p s = Err tree.RefUnknown
 refer_answer version (Some e) k p s = walk.differs_or (stands_for version e.position p && nat_eq e.plies k) e.fertile s
 
--- the state of the walk, with so many records that may come
+-- the state of the walk, where `records` more records may come
 abbrev pub judged_at : Names → ℕ → List ℕ → ℕ → walk.WalkState State
 judged_at names records rest room = record { rest = rest; entries = entries_of names.table; records = records; room = room }
 

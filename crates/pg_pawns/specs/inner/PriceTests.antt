@@ -21,7 +21,7 @@ SourceFits d c s u v = (t : ℕ) → t < 64 → Stands d c Pawn t → PairFits c
 unfoldable pub AllFit : Placement → Placement → Color → List ℕ → List ℕ → Type 0
 AllFit b d c u v = (s : ℕ) → s < 64 → Stands b c Pawn s → SourceFits d c s (price u c any_pawn b s) v
 
--- the second rank is at least so many ranks before the first, as the colour's pawns go
+-- the second rank is at least n ranks before the first, as the colour's pawns go
 abbrev pub IsAhead : Color → ℕ → ℕ → ℕ → Type 0
 IsAhead White from to n = from + n ≤ to
 IsAhead Black from to n = to + n ≤ from

@@ -15,7 +15,7 @@ pub enum Led {
     Found(Game),
     /// No such game was met. Of the games to the diagram, of the stated length or fewer plies, each that has
     /// at most `foreign` foreign moves was met, where that is told; it is not told where the nodes came to
-    /// their end before. So many nodes were visited, and `end` says why no more were.
+    /// their end before. `nodes` nodes were visited, and `end` says why no more were.
     NotFound {
         foreign: Option<u8>,
         nodes: u64,
@@ -45,16 +45,16 @@ pub enum LedFault {
 /// How far a led search goes.
 #[derive(Clone, Copy, Debug, PartialEq, Eq)]
 pub struct LedLimits {
-    /// So many nodes are visited at most.
+    /// The most nodes that are visited.
     pub max_nodes: u64,
-    /// A game has at most so many foreign moves; any number where this is none.
+    /// The most foreign moves that a game has; any number where this is none.
     pub foreign: Option<u8>,
 }
 
 /// Is told how far a led search is, and may end it. Nothing else that it does changes what is found.
 pub trait LedProgress {
-    /// Games with at most so many foreign moves are looked for, of so many plies, and so many nodes more may
-    /// be visited.
+    /// Games of `plies` plies with at most `foreign` foreign moves are looked for, and `left` more nodes may be
+    /// visited.
     fn reached(&mut self, foreign: u8, plies: u8, left: u64);
 
     /// Whether the search goes on. It is asked each time after `reached`; where it does not the search ends as at the

@@ -8,7 +8,7 @@ const FIRST_SLOTS: usize = 16_384;
 
 const MOST_SLOTS: usize = 4_194_304;
 
-// A key stands in one of so many slots from its place on.
+// A key stands in one of this number of slots, from its place on.
 const BUCKET_SLOTS: usize = 4;
 
 // Stands for any number of foreign moves.
@@ -75,7 +75,7 @@ impl Barren {
         }
     }
 
-    // Enters a node with so many plies left by its key, which is not 0.
+    // Enters a node with `left` plies left by its key, which is not 0.
     pub(crate) fn put(&mut self, key: u64, left: u8, foreign: u8) -> Result<(), AllocError> {
         if self.used >= self.slots.len() / 2 && self.slots.len() < MOST_SLOTS {
             self.grow()?;

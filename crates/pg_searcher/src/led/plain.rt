@@ -74,7 +74,7 @@ impl LedMover {
 }
 
 impl Scene {
-    // What is known of a node at a ply, after whose moves so many plies are left.
+    // What is known of a node at a ply, after whose moves `left` plies are left.
     pub(crate) fn new(
         judge: &Judge,
         position: &Position,

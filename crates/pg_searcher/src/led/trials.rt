@@ -17,7 +17,7 @@ pub(crate) struct Trials {
     promotion: Option<Kind>,
 }
 
-// So many men are tried at most. With more it is cheaper to go through all legal moves.
+// The most men that are tried. With more it is cheaper to go through all legal moves.
 const FEW: u8 = 6;
 
 // What a pawn becomes in the move after that by which it becomes this.

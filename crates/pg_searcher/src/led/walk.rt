@@ -16,7 +16,7 @@ use pg_position::Position;
 // Each loop has a bound, and halts as at the end of the budget where it comes to it. None does: no position has
 // 65,535 moves, and no run takes 2^64 - 1 turns.
 
-// A node with so many plies left closes. One below which no listed game lies is entered among the barren ones.
+// A node with `left` plies left closes. One below which no listed game lies is entered among the barren ones.
 fn close(top: &Open, frames: &mut Frames, machine: &mut LedMachine, left: u8) -> Result<(), Halt>
     ensures { length frames.new.items ≡ length frames.old.items }
 {
@@ -115,8 +115,8 @@ fn next_uncut(
     Err(Halt::Budget)
 }
 
-// The moves of a node at a ply are played up to the first that leads to a node that opens, with so many plies
-// left, which is the answer; none where there is no such move.
+// The moves of a node at a ply are played up to the first that leads to a node that opens, with `left` plies left,
+// which is the answer; none where there is no such move.
 fn next_opened(
     question: &LedQuestion,
     top: &mut Open,
@@ -140,7 +140,7 @@ fn next_opened(
     Err(Halt::Budget)
 }
 
-// The moves of a node are played until a node opens, with so many plies left; where none does the node closes.
+// The moves of a node are played until a node opens, with `left` plies left; where none does the node closes.
 fn play_until_opened(
     question: &LedQuestion,
     frames: &mut Frames,
@@ -193,7 +193,7 @@ fn turn(
     }
 }
 
-// The initial array is entered, for games of so many plies, at least two: the first open node, if it opens.
+// The initial array is entered, for games of `plies` plies, at least two: the first open node, if it opens.
 fn enter_root(
     question: &LedQuestion,
     sieve: &mut Sieve,
@@ -230,7 +230,7 @@ fn short_tree(question: &LedQuestion, found: &mut Game, plies: u8) -> Result<(),
     }
 }
 
-// All games of so many plies, with at most so many foreign moves.
+// All games of `plies` plies with at most `foreign` foreign moves.
 pub(crate) fn tree<P: LedProgress>(
     question: &LedQuestion,
     frames: &mut Frames,

@@ -25,7 +25,7 @@ raised t c q = above (t.toll c q +ℤ pos 128)
 abbrev pub IsWithin : ℕ → ℕ → ℕ → Type 0
 IsWithin before behind charge = (before ≤ behind + charge) × (behind < 65535 → before < 65535)
 
--- the table is closed under the steps of c, for so many marks: it is at most what each walk is charged
+-- the table is closed under the steps of c, for up to `most` marks: it is at most what each walk is charged
 pub record IsClosed (t : Tariff) (f : Facts) (c : Color) (goals : Men) (most : ℕ) (rows : List (List ℕ)) : Type 0 where
   pub goal : (j e : ℕ) → j ≤ most → e < goals.count → entry rows j (kind_at goals e) (square_at goals e) e ≤ 128 * j
   pub fall : (j s : ℕ) (k : Kind) → j ≤ most → s < 64 → k ≢ King → goals.count < 16 → f.lands (other c) s ≡ true →

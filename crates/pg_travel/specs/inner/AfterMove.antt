@@ -44,6 +44,6 @@ IsToCome b d c t = (j : Kind) × Stands d c j t × (get b t ≢ get d t)
 abbrev pub AreToCome : Placement → Placement → Color → ℕ → Type 0
 AreToCome b d c set = (t : ℕ) → t < 64 → has set t ≡ true → IsToCome b d c t
 
--- so many plies pay for no way of c
+-- n plies pay for no way of c
 abbrev pub NonePays : State → Placement → Color → ℕ → Type 0
 NonePays q d c n = PaysIs q d c None n false × CastledIs q d c KingSide n false × CastledIs q d c QueenSide n false

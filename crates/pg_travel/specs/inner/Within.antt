@@ -1,4 +1,4 @@
--- What so many plies pay for.
+-- What a number of plies pays for.
 use Rattle.std.specs.Prelude.{◌≡◌, ℕ, ◌<◌, ◌≤◌, Bool, true, false, Option, Some, None}
 use Rattle.pg_board.specs.declared.man.Color.{Color}
 use Rattle.pg_board.specs.Bits.{has}

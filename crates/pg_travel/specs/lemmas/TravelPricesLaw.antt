@@ -1,4 +1,4 @@
--- The law of travel prices: where they exclude, no game of so many plies ends on the diagram.
+-- The law of travel prices: where they exclude, no game of k plies ends on the diagram.
 use Rattle.std.proofs.Common.{◌≡◌, ℕ, ◌+◌, ◌<◌, ◌≤◌, Bool, true, false, cond, Option, Some, None, ap, subst, arith, List, [], ◌∷◌, ◌++◌, length}
 use Rattle.std.specs.Prelude.{sum}
 use Rattle.std.specs.List.{AllZip}
@@ -75,7 +75,7 @@ list_of R p c lists h (Some QueenSide) held = queen (holds p.rights c KingSide) 
     queen false true (x ∷ (y ∷ ys)) e h = (y, h.1.0)
     queen a false ls e h = cc
 
--- the law, with which a yes means that no game of so many plies ends on the diagram
+-- the law, with which a yes means that no game of k plies ends on the diagram
 abbrev pub TravelPricesLaw : Type 0
 TravelPricesLaw = (d : Placement) (p : State) (k : ℕ) (c : Color) (lists : List PriceList) → IsPosition p → TravelPricesExclude d p k c lists → Barren d p k
 

@@ -19,7 +19,7 @@ impl Numbers {
     }
 }
 
-// Costs of so many targets and sources, from 0 to 10 or none; the others are none.
+// Costs of `targets` targets and `sources` sources, from 0 to 10 or none; the others are none.
 fn random_costs(numbers: &mut Numbers, targets: usize, sources: usize, most: u64) -> Costs {
     let mut costs = [[255u8; MOST_MEN]; MOST_MEN];
     for t in 0..MOST_MEN {

@@ -9,7 +9,7 @@ use pg_position::{Move, Rights};
 use pg_travel::prices_exclude_by;
 use std::alloc::Global;
 
-// The position after so many moves by chance, and the next state of the chance.
+// The position after `plies` moves by chance, and the next state of the chance.
 fn wander(
     rt: &impl Abort,
     alloc: Global,
@@ -174,8 +174,8 @@ fn cut_off_sets(rows: &Rows, leasts: &Leasts, position: &Position) -> [SquareSet
     sets
 }
 
-// Whether the man of a move is among those that are cut off just where the need is above so many plies whatever his
-// move.
+// Whether, for each number of plies, the man of a move is among those that are cut off just where the need is above it
+// whatever his move.
 fn is_cut_off_rightly(sets: &[SquareSet; 61], from: Square, need: u8) -> bool {
     for plies in 0..61u8 {
         if sets[usize::from(plies)].contains(from) != (need > plies) {

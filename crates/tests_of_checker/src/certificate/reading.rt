@@ -329,7 +329,7 @@ fn a_failed_read_is_not_tried_again(rt: HostRuntime) {
     }
 }
 
-// A header and then one byte for ever: so many records are read, or the first is refused.
+// A header and then one byte for ever: 10,000 records are read, or the first is refused.
 fn check_endless<R: Abort + AllocGlobal>(rt: &R, version: &str, byte: u8, wanted: &str) {
     let header = spelled(rt, version, "");
     let mut source = FromRead::new(header.as_slice().chain(Endless::new(byte)));

@@ -47,7 +47,7 @@ fn stays_failed(rt: &impl Abort, sink: &mut impl Sink, writer: &mut RecordWriter
     }
 }
 
-// Writes a header, each record so many times, and the end, up to the first refusal. After that each call answers
+// Writes a header, each record `times` times, and the end, up to the first refusal. After that each call answers
 // Failed.
 fn write_all(rt: &impl Abort, sink: &mut impl Sink, times: u64) -> Result<(), WriteFault> {
     let mut writer = RecordWriter::new();
@@ -76,7 +76,7 @@ fn each_record_is_written(rt: HostRuntime) {
     assert_eq!(rt; sink.into_inner().as_slice(), wanted.as_slice());
 }
 
-// A header is read, each record so many times, and the end.
+// A header is read, each record `times` times, and the end.
 fn check_read<R: Abort + AllocGlobal, S: Source>(rt: &R, source: &mut S, times: usize) {
     let records = RECORD_WORDS.repeat(rt.alloc(), times).expect(rt, "memory");
     let wanted = words(rt, &format_args!("{:?};{records}end;", array_header()));

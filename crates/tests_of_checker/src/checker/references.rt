@@ -78,7 +78,7 @@ fn names(said: &Said) -> &str {
     }
 }
 
-// The certificate has so many named nodes, or is refused so.
+// The certificate has `wanted` named nodes, or is refused so.
 fn check_named<R: Abort + AllocGlobal>(rt: &R, asked: &str, bytes: &[u8], wanted: &str) {
     let said = said_to(rt, asked, &four_bounds(rt), bytes);
     assert_eq!(rt; names(&said), wanted, "{asked}");
@@ -217,7 +217,7 @@ fn grow_marked<R: Abort + AllocGlobal>(
     );
 }
 
-// Writes the tree of so many plies where no node is named, and none refers to another.
+// Writes the tree of `left` plies where no node is named, and none refers to another.
 pub(super) fn write_tree<R: Abort + AllocGlobal>(
     rt: &R,
     bytes: &mut Vec<u8>,

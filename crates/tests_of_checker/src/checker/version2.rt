@@ -101,7 +101,7 @@ fn each_read_of_prices_failing_in_turn(rt: HostRuntime) {
     each_read_fails(&rt, PRICED, 180);
 }
 
-// Cuts by prices of the pawn files, so many times.
+// Cuts by prices of the pawn files, `times` times.
 fn many_cuts<R: Abort + AllocGlobal>(rt: &R, times: usize) -> Vec<u8> {
     let cuts = "060300010808 00*3 01 00*7 01 00*3 01 ".repeat(rt.alloc(), times);
     certificate(rt, "2 pawn-on-d3 64.0", cuts.expect(rt, "memory").as_str())

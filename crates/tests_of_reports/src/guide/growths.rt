@@ -18,6 +18,7 @@ fn named_run(rt: &impl Abort, alloc: Global) -> (Result<(), WhyFault>, usize) {
         alloc,
         &mut opened,
         "e4",
+        &[],
         &bounds,
         &mut source,
         &mut out,

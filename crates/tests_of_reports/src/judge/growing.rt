@@ -1,4 +1,4 @@
-//! The limits of searches that follow one another.
+//! The searches that follow one another, and their limits.
 
 use super::*;
 use arrayvec::ArrayString;
@@ -32,50 +32,44 @@ impl SearchProgress for Hasty {
 const SCHWEIG: &str =
     "schweig r1bqkbnr/ppp2ppp/3p4/8/8/8/PPPPPPPP/R1BQKBNR 4.0 1. Nc3 d6 2. Nd5 Nd7 3. Nxe7 Ndf6 4. Nxg8 Nxg8";
 
-// Limits of so many nodes.
-fn limits_of(max_nodes: u64, by_journeys: bool) -> Limits {
-    Limits {
-        max_nodes,
-        by_journeys,
-    }
-}
+const BARE: &str = "schweig r1bqkbnr/ppp2ppp/3p4/8/8/8/PPPPPPPP/R1BQKBNR 4.0";
 
 // Which searches are made within limits, where each is ended at once.
-fn check_searches<R: Abort + AllocGlobal>(rt: &R, limits: Limits, wanted: &str) {
+fn check_searches<R: Abort + AllocGlobal>(rt: &R, line: &str, max_nodes: u64, wanted: &str) {
     let mut watch = Hasty {
         said: ArrayString::new(),
         is_told: false,
     };
     let mut scratch = Cursor::new(Vec::new(rt.alloc()));
-    ruled(rt, SCHWEIG, limits, &mut scratch, &mut watch);
+    ruled(rt, line, nodes(max_nodes), &mut scratch, &mut watch);
     assert_eq!(rt; watch.said.as_str(), wanted);
 }
 
 #[test]
 fn limits_grow(rt: HostRuntime) {
-    check_searches(&rt, limits_of(500, false), "Cooks 500, Search 500, ");
+    check_searches(&rt, SCHWEIG, 500, "Cooks 500, Search 500, Journeys 500, ");
     check_searches(
         &rt,
-        limits_of(25_000_000, false),
-        "Cooks 1000000, Search 1000000, Search 10000000, Search 25000000, ",
-    );
-    check_searches(
-        &rt,
-        limits_of(10_000_000, true),
-        "Cooks 1000000, Search 1000000, Journeys 1000000, Search 10000000, Journeys 10000000, ",
+        SCHWEIG,
+        25_000_000,
+        "Cooks 1000000, Search 1000000, Journeys 20000, ",
     );
 }
 
+// Without a game of the author's one is looked for by drawn orders, where more nodes are allowed than by journeys.
 #[test]
 fn the_first_limits_alone(rt: HostRuntime) {
+    check_searches(&rt, BARE, 20_000, "Search 20000, Journeys 20000, ");
     check_searches(
         &rt,
-        limits_of(10_000_000, true).first(),
-        "Cooks 1000000, Search 1000000, Journeys 1000000, ",
+        BARE,
+        25_000,
+        "Search 25000, Journeys 20000, Drawn 24960, ",
     );
     check_searches(
         &rt,
-        limits_of(500, true).first(),
-        "Cooks 500, Search 500, Journeys 500, ",
+        BARE,
+        10_000_000,
+        "Search 1000000, Journeys 20000, Drawn 72000, ",
     );
 }

@@ -39,10 +39,7 @@ short-by-search|2.0|not sound|-|search, 0 nodes|a game of 2 plies: 1. e4 e5
 
 #[test]
 fn rows(rt: HostRuntime) {
-    let limits = Limits {
-        max_nodes: 100_000,
-        by_journeys: false,
-    };
+    let limits = nodes(100_000);
     assert_eq!(rt; rows_of(&rt, PROBLEMS, limits).as_str(), ROWS);
 }
 
@@ -52,26 +49,20 @@ const LONG: &str =
 four rnbqkbnr/1pp1pppp/p2P4/8/8/8/PPPP1PPP/RNBQKBNR 2.5";
 
 const FEW: &str =
-    "schweig|4.0|not settled|solves|search, 95 nodes|1 game met; none below 2.5; no cook with at most 0 foreign moves; limit reached
+    "schweig|4.0|not settled|solves|journeys, 99 nodes|1 game met; none below 3.5; no cook with at most 0 foreign moves; limit reached
 four|2.5|not sound|-|search, 74 nodes|2 games met: 1. e4 a6 2. e5 d5 3. exd6; 1. e4 a6 2. e5 d6 3. exd6
 ";
 
 #[test]
 fn few_nodes(rt: HostRuntime) {
-    let limits = Limits {
-        max_nodes: 100,
-        by_journeys: false,
-    };
+    let limits = nodes(100);
     assert_eq!(rt; rows_of(&rt, LONG, limits).as_str(), FEW);
 }
 
 // Too few for a search, and enough for one with journeys.
 #[test]
 fn by_journeys(rt: HostRuntime) {
-    let limits = Limits {
-        max_nodes: 3100,
-        by_journeys: true,
-    };
+    let limits = nodes(3100);
     let problem = "schweig r1bqkbnr/ppp2ppp/3p4/8/8/8/PPPPPPPP/R1BQKBNR 4.0";
     let row =
         "schweig|4.0|sound|-|journeys, 3033 nodes|1. Nc3 d6 2. Nd5 Nd7 3. Nxe7 Ndf6 4. Nxg8 Nxg8\n";

@@ -10,7 +10,7 @@ use std::io::{Error, ErrorKind, Read, Write};
 
 const LIMITS: Limits = Limits {
     max_nodes: 1000,
-    by_journeys: false,
+    enough: Enough::OneSearch,
 };
 
 const PAWNS: &str = "pawns rnbqkbnr/pppp1ppp/8/4p3/4P3/8/PPPP1PPP/RNBQKBNR 1.0";

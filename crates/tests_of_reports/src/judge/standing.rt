@@ -6,7 +6,7 @@ use pg_moves::Unwatched;
 
 const LIMITS: Limits = Limits {
     max_nodes: 1000,
-    by_journeys: false,
+    enough: Enough::OneSearch,
 };
 
 const ORDERS: &str = "orders rnbqkbnr/pppp1ppp/4p3/8/8/3PP3/PPP2PPP/RNBQKBNR 1.5";

@@ -58,10 +58,19 @@ fn judged<R: Abort + AllocGlobal, S: Scratch, P: JudgeProgress>(
         bounds.as_slice(),
         prepared,
         orders.lead,
-        orders.second,
+        nodes(orders.second),
         scratch,
         watch,
     )
+}
+
+// The author's games, as games that are known.
+fn known_of<R: Abort + AllocGlobal>(rt: &R, entry: &Entry<'_>) -> Games {
+    let mut games = Games::new(rt.alloc());
+    if let Some(game) = entry.games.game(0) {
+        assert!(rt; games.add(game).is_ok());
+    }
+    games
 }
 
 // The row of a problem that is judged by tolls, as if the search for cooks had gone through all games with no foreign
@@ -75,7 +84,15 @@ pub(super) fn row_by_tolls<R: Abort + AllocGlobal, S: Scratch, P: JudgeProgress>
 ) -> String {
     let entry = entry_of(rt, line);
     let bounds = five_bounds(rt);
-    match prepare_tolls(rt.alloc(), &entry, &bounds, orders.first, Some(0), watch) {
+    let pending = Pending::new(known_of(rt, &entry), Some(0));
+    match prepare_tolls(
+        rt.alloc(),
+        &entry,
+        &bounds,
+        pending,
+        nodes(orders.first),
+        watch,
+    ) {
         Ok(prepared) => {
             let ruling = judged(rt, &entry, prepared, orders, scratch, watch);
             row_of(rt, &entry, &ruling, Old::Absent)
@@ -96,10 +113,7 @@ const LONG: &str = "long 2bqr1k1/2p1ppbp/1pp4p/7n/r2P3P/8/P1P1PPP1/RNB1KBNR 9.5"
 // As many nodes are too few by journeys.
 #[test]
 fn tolls_settle_what_journeys_do_not(rt: HostRuntime) {
-    let limits = Limits {
-        max_nodes: ORDERS.second,
-        by_journeys: true,
-    };
+    let limits = nodes(ORDERS.second);
     let mut scratch = Cursor::new(Vec::new(rt.alloc()));
     let row = ruled(&rt, LONG, limits, &mut scratch, &mut Unwatched);
     assert_eq!(rt;
@@ -125,8 +139,8 @@ fn a_certificate_stands_behind_its_lead(rt: HostRuntime) {
         rt.alloc(),
         &entry,
         &bounds,
-        ORDERS.first,
-        None,
+        Pending::new(Games::new(rt.alloc()), None),
+        nodes(ORDERS.first),
         &mut Unwatched,
     ) else {
         panic!(rt; "no tariffs");
@@ -186,8 +200,7 @@ fn no_tariffs_are_journeys(rt: HostRuntime) {
     );
     let prepared = Prepared {
         tariffs: Vec::new(rt.alloc()),
-        games: Games::new(rt.alloc()),
-        foreign: None,
+        pending: Pending::new(Games::new(rt.alloc()), None),
     };
     let mut scratch = Cursor::new(Vec::new(rt.alloc()));
     let ruling = judged(&rt, &entry, prepared, ORDERS, &mut scratch, &mut Unwatched);

@@ -194,7 +194,7 @@ fn certificate_of<R: Abort + AllocGlobal>(rt: &R, problem: &str) -> Vec<u8> {
     certificate(rt, header.as_str(), records)
 }
 
-// What is answered where so many nodes are told at most, how many bytes the page has, their digest, and in how many
+// What is answered where `nodes` nodes are told at most, how many bytes the page has, their digest, and in how many
 // pushes they go out.
 fn shown<R: Abort + AllocGlobal>(rt: &R, problem: &str, nodes: &str, bytes: &[u8]) -> Said {
     let (diagram, length) = (field(problem, 1), field(problem, 2));

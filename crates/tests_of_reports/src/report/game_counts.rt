@@ -30,7 +30,7 @@ fn counts_that_are_refused(rt: HostRuntime) {
     check_table(&rt, REFUSED);
 }
 
-// The write with this number fails, after so many bytes.
+// The write with this number fails, after `length` bytes.
 fn check_length<R: Abort + AllocGlobal>(rt: &R, at: u64, length: usize) {
     let writer = written(rt, "count | endgame | 3", b"", at, "Write: write fault");
     assert_eq!(rt; writer.into_inner().len(), length);

@@ -58,7 +58,7 @@ fn one_ply_on<R: Abort + AllocGlobal>(rt: &R, positions: &[Position]) -> Vec<Pos
     all
 }
 
-// The positions so many plies after the array.
+// The positions `plies` plies after the array.
 fn after<R: Abort + AllocGlobal>(rt: &R, plies: u8) -> Vec<Position> {
     let mut positions = one_ply_on(rt, &[Position::array()]);
     for _ in 1..plies {
@@ -67,7 +67,7 @@ fn after<R: Abort + AllocGlobal>(rt: &R, plies: u8) -> Vec<Position> {
     positions
 }
 
-// The least length of each position after so many plies is just that.
+// The least length of each position after `plies` plies is just that.
 fn check_all<R: Abort + AllocGlobal>(rt: &R, plies: u8) {
     for position in &after(rt, plies) {
         let found = least(rt, &Diagram::of(position)).expect(rt, "a length");
@@ -82,7 +82,7 @@ fn least_lengths_after_two_plies(rt: HostRuntime) {
     check_all(&rt, 2);
 }
 
-// The placements after so many plies.
+// The placements after `plies` plies.
 fn placements<R: Abort + AllocGlobal>(rt: &R, plies: u8) -> Vec<[u8; 32]> {
     let mut all = Vec::new(rt.alloc());
     for position in &after(rt, plies) {
@@ -138,7 +138,8 @@ fn check_prices<R: Abort + AllocGlobal>(rt: &R, row: &str) {
 }
 
 // Prices alone, and with the four bounds: they say more where several men would come from one square, as
-// the nearest man of each, and less where captures are owed. Each diagram has a game, of so many plies.
+// the nearest man of each, and less where captures are owed. Each diagram has a game, of the number of plies that ends
+// its row.
 #[test]
 fn least_lengths_by_prices(rt: HostRuntime) {
     for row in BY_PRICES.lines() {

@@ -15,7 +15,7 @@ const SECOND: [&str; 12] = [
 
 const ENDS: [&str; 3] = ["", " c3b5", " c3b5 f6g4"];
 
-// So many different games.
+// `count` different games.
 fn games_of<R: Abort + AllocGlobal>(rt: &R, count: usize) -> Games {
     let mut text = String::new(rt.alloc());
     for number in 0..count {
@@ -32,7 +32,7 @@ fn games_of<R: Abort + AllocGlobal>(rt: &R, count: usize) -> Games {
     games
 }
 
-// Takes so many pushes, and keeps what they bring; the next one fails, and so does each after it.
+// Takes `left` more pushes, and keeps what they bring; the next one fails, and so does each after it.
 #[derive(Drop)]
 struct Limited {
     bytes: Vec<u8>,
@@ -61,7 +61,7 @@ impl Sink for Limited {
     }
 }
 
-// One that takes so many pushes.
+// One that takes `left` pushes.
 fn takes(alloc: Global, left: usize) -> Limited {
     Limited {
         bytes: Vec::new(alloc),
@@ -96,7 +96,7 @@ fn begins(text: &[u8], at: usize) -> bool {
     }
 }
 
-// That of the list just the bytes before this one go out where so many pushes are taken.
+// That of the list just these bytes go out where `pushes` pushes are taken.
 fn check_front(rt: &impl Abort, alloc: Global, games: &Games, pushes: usize, wanted: &[u8]) {
     let mut out = takes(alloc, pushes);
     let refused = write_games(games, &mut out) == Err(Refused);
@@ -119,8 +119,8 @@ fn check_pushes<R: Abort + AllocGlobal>(rt: &R, games: &Games, text: &[u8]) -> u
     pushes
 }
 
-// How many pushes so many games are: a ply is one, so is the space behind it but for the last one, two stand before a
-// move of White's, and one behind all. From 128 games on texts are kept.
+// A number of games, and how many pushes they are: a ply is one, so is the space behind it but for the last one, two
+// stand before a move of White's, and one behind all. From 128 games on texts are kept.
 const COUNTS: &str = "1 => 18
 126 => 2688
 127 => 2706

@@ -44,7 +44,7 @@ games 4
 cooked
 ";
 
-// The certificate that the searcher writes, of so many games.
+// The certificate that the searcher writes, of `count` games.
 pub(super) fn searched<R: Abort + AllocGlobal>(
     rt: &R,
     diagram: &str,

@@ -6,7 +6,7 @@ use pg_certificate::Record;
 use pg_fen::{Diagram, read_position};
 use pg_position::Position;
 use pg_price_lists::Prices;
-use pg_sentences::{Ending, Node, Tally, ended, expanded};
+use pg_sentences::{Ending, GrowingFares, Node, Tally, ended, expanded};
 use pg_travel::Travel;
 use std::process::Abort;
 
@@ -44,7 +44,9 @@ fn longest_prices_are_whole(rt: HostRuntime) {
         color: Color::White,
         prices: prices_of(&rt),
     };
-    let mut said = ended(&node(&diagram, &position), &Ending::Said(record));
+    let mut fares = GrowingFares::new(rt.alloc(), &diagram, &[]);
+    let ending = Ending::Said(record);
+    let mut said = ended(&node(&diagram, &position), &ending, &mut fares);
     assert_eq!(rt;
         said.as_str(),
         "excluded: white has 128 moves left, and white's men need 15556 moves at least, counted pair by pair: the \
@@ -67,6 +69,7 @@ fn longest_counts_are_whole(rt: HostRuntime) {
         files: u16::MAX,
         travel: u16::MAX,
         journeys: u16::MAX,
+        tolls: u16::MAX,
         others: u16::MAX,
         references: u16::MAX,
         played_out: u16::MAX,
@@ -77,7 +80,7 @@ fn longest_counts_are_whole(rt: HostRuntime) {
         said.as_str(),
         "65535 of 65535 moves lead on; cut 65535 by captures, 65535 by promotions, 65535 by pawn files, 65535 by \
             travel, \
-         65535 by journeys, 65535 by other bounds, 65535 by reference; 65535 played out; 18446744073709551615 games \
-             below"
+         65535 by journeys, 65535 by tolls, 65535 by other bounds, 65535 by reference; 65535 played out; \
+             18446744073709551615 games below"
     );
 }

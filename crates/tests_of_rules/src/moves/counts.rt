@@ -5,7 +5,7 @@ use pg_fen::text::digits;
 use pg_moves::{CountFault, LegalMoves, count, count_legal, legal_moves};
 use std::alloc::{AllocError, Global};
 
-// That each row's position has so many games of 0 plies, 1 ply and so on.
+// That each row's position has the row's numbers of games of 0 plies, 1 ply and so on.
 fn check(rt: &impl Abort, alloc: Global, table: &str) {
     for row in table.lines() {
         check_counts(rt, alloc, row);
@@ -84,7 +84,7 @@ fn promotions(rt: HostRuntime) {
     check(&rt, rt.alloc(), PROMOTIONS);
 }
 
-// Whether games of so many plies are refused as too deep.
+// Whether games of `plies` plies are refused as too deep.
 fn is_too_deep(alloc: Global, start: &Position, plies: u8) -> bool {
     count(alloc, start, plies) == Err(CountFault::TooDeep)
 }

@@ -44,7 +44,7 @@ fn push(rt: &impl Abort, text: &mut String, more: &str) {
     assert!(rt; text.push_str(more).is_ok());
 }
 
-// A text so many times.
+// A text, `times` times.
 fn repeated<R: Abort + AllocGlobal>(rt: &R, part: &str, times: usize) -> String {
     let mut text = String::new(rt.alloc());
     for _ in 0..times {
@@ -53,7 +53,7 @@ fn repeated<R: Abort + AllocGlobal>(rt: &R, part: &str, times: usize) -> String 
     text
 }
 
-// So many different games, a line each.
+// `count` different games, a line each.
 fn many_lines<R: Abort + AllocGlobal>(rt: &R, count: usize) -> String {
     let mut text = String::new(rt.alloc());
     for i in 0..count {

@@ -61,7 +61,7 @@ fn push_game(rt: &impl Abort, text: &mut Text, number: usize) {
     push(rt, text, "\n");
 }
 
-// So many games, of which none is like the one before.
+// `count` games, of which none is like the one before.
 fn games_text(rt: &impl Abort, count: usize) -> Text {
     let mut text = Text::new();
     for number in 0..count {

@@ -7,7 +7,7 @@ use pg_captures::Bound;
 use pg_certificate::ToWrite;
 use pg_moves::Unwatched;
 
-// How many games a search of so many nodes by journeys finds, and their digest.
+// How many games a search of `nodes` nodes by journeys finds, and their digest.
 fn said<R: Abort + AllocGlobal>(rt: &R, goal: &Goal, nodes: u64) -> Said {
     let mut sink = ToWrite::new(Vec::new(rt.alloc()));
     let (diagram, length) = (&goal.diagram, goal.length);
@@ -32,7 +32,7 @@ fn said<R: Abort + AllocGlobal>(rt: &R, goal: &Goal, nodes: u64) -> Said {
     }
 }
 
-// What was found with so many nodes is found by journeys with as many; whether it was.
+// What was found with `nodes` nodes is found by journeys with as many; whether it was.
 fn check_found<R: Abort + AllocGlobal>(rt: &R, row: &str, nodes: u64, state: &mut u64) -> bool {
     let (drawn_so, wanted) = halves(rt, row, " => ");
     let plies = number(rt, field(drawn_so, 1));

@@ -103,7 +103,7 @@ fn drawn_list<R: Abort + AllocGlobal>(
 // A game in which eight men of either side leave their squares.
 const PAWNS: &str = "1. a3 a6 2. b3 b6 3. c3 c6 4. d3 d6 5. e3 e6 6. f3 f6 7. g3 g6 8. h3 h6";
 
-// Adds a game in which so many men of either side leave their squares, wherever it ends.
+// Adds a game in which `men` men of either side leave their squares, wherever it ends.
 fn add_crowd<R: Abort + AllocGlobal>(rt: &R, asked: &mut Asked, men: usize) {
     let pawns = games_of(rt, PAWNS);
     let game = pawns.game(0).expect(rt, PAWNS);
@@ -113,7 +113,8 @@ fn add_crowd<R: Abort + AllocGlobal>(rt: &R, asked: &mut Asked, men: usize) {
     }
 }
 
-// How many searches found a game, met all with so many foreign moves, met not even those with none, and failed.
+// How many searches found a game, met all games with up to some number of foreign moves, met not even those with none,
+// and failed.
 #[derive(Clone, Copy)]
 struct Kinds {
     found: u32,

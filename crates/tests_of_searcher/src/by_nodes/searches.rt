@@ -7,7 +7,7 @@ use pg_fen::{Diagram, Length};
 use pg_trial::FailsAt;
 use std::io::ErrorKind;
 
-// A search of so many nodes, whose piece with that number cannot be written.
+// A search of `nodes` nodes, whose piece with the number `at` cannot be written.
 #[derive(Clone, Copy)]
 struct Asked {
     goal: Goal,

@@ -49,7 +49,7 @@ impl SearchProgress for Told {
     }
 }
 
-// What a search comes to that is told so often at most, of three starts with so many nodes.
+// What a search comes to that is told `most` times at most how far it is, of three starts with `nodes` nodes.
 fn watched<R: Abort + AllocGlobal>(rt: &R, goal: &Goal, nodes: u64, most: u32) -> (Said, Told) {
     let bounds = by_journeys(rt, goal);
     let limits = DrawnLimits {

@@ -7,7 +7,7 @@ use pg_fen::{Diagram, Length};
 use pg_position::Position;
 use pg_searcher::{SearchFault, search};
 
-// Where a game of so many drawn moves ends; before them where none is legal.
+// Where a game of `plies` drawn moves ends; before them where none is legal.
 fn end_by_chance(rt: &impl Abort, alloc: Global, state: u64, plies: u8) -> Position {
     let mut position = Position::array();
     let mut state = state;

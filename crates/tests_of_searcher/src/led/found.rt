@@ -2,10 +2,10 @@
 
 use super::*;
 
-// Games that lead to another one within so many nodes, with so many foreign moves at most, and how many plies that one
-// has: known games of ten to eighteen moves; men of either colour who move in another order; castling to either side,
-// promotions of either colour, captures en passant; a first move that is foreign; a pawn's two squares in place of one,
-// Black's and White's, so that the first foreign move is theirs; and a game that is shorter.
+// Games that lead to another one, within how many nodes, with how many foreign moves at most, and how many plies that
+// one has: known games of ten to eighteen moves; men of either colour who move in another order; castling to either
+// side, promotions of either colour, captures en passant; a first move that is foreign; a pawn's two squares in place
+// of one, Black's and White's, so that the first foreign move is theirs; and a game that is shorter.
 const LEADS: &str =
     "1. e3 a5 2. Qh5 Ra6 3. Qxa5 h5 4. h4 Rah6 5. Qxc7 f6 6. Qxd7+ Kf7 7. Qxb7 Qd3 8. Qxb8 Qh7 9. Qxc8 Kg6 10. Qe6 | \
     1000 | 0 => 19 plies
@@ -56,7 +56,7 @@ const SOUND: &str = "1. e4 g6 2. Ba6 Nxa6 3. Nf3 Nb8 4. O-O
 1. d4 Nf6 2. Qd2 Nh5 3. Qh6 gxh6 4. b4 Bg7 5. b5 O-O 6. b6 Re8 7. bxa7 b6 8. axb8=N Ra4 9. Nxd7 Rc4 10. Nc5 Bf5 11. \
     e3 Qa8 12. Be2 Qa3";
 
-// Whether a search of so many nodes goes through all games with three foreign moves at most, or through all games
+// Whether a search of `nodes` nodes goes through all games with three foreign moves at most, or through all games
 // before that, and meets none.
 fn meets_none<R: Abort + AllocGlobal>(rt: &R, game: &str, nodes: u64) -> bool {
     matches!(

@@ -36,10 +36,10 @@ fn check_visited<R: Abort + AllocGlobal>(rt: &R, row: &str, by_journeys: bool) {
     );
 }
 
-// With so many nodes a game is found, or a round ends, and with a node less it is not. Familiar moves are castlings,
-// captures en passant and promotions too, to a knight and a queen on one square, to a bishop and a rook with more than
-// two plies left and as the move before the last. Six men that leave their squares are tried one by one, seven and more
-// are not. The numbers are those of a walk that went through all moves.
+// With the row's number of nodes a game is found, or a round ends, and with a node less it is not. Familiar moves are
+// castlings, captures en passant and promotions too, to a knight and a queen on one square, to a bishop and a rook with
+// more than two plies left and as the move before the last. Six men that leave their squares are tried one by one,
+// seven and more are not. The numbers are those of a walk that went through all moves.
 const VISITED: &str =
     "1. Nc3 d6 2. Nd5 Nd7 3. Nxe7 Ndf6 4. Nxg8 Nxg8 | 20000 | 1 => none with 1 2545
 1. Nc3 d6 2. Nd5 Nd7 3. Nxe7 Ndf6 4. Nxg8 Nxg8 | 2545 | 1 => none with 1 2545
@@ -147,7 +147,7 @@ impl LedProgress for Turns {
     }
 }
 
-// How many turns searches take together, one with each limit from no node up to so many.
+// How many turns searches take together, one with each limit from no node up to `nodes`.
 fn turns_up_to<R: Abort + AllocGlobal>(rt: &R, games: &str, nodes: u64, foreign: &str) -> u64 {
     let asked = asked_by(rt, games);
     let mut turns = Turns { count: 0 };

@@ -4,7 +4,7 @@
 use super::*;
 use pg_trial::Digest;
 
-// How many games a search of so many nodes finds, or the fault; how many bytes it wrote until then; their digest.
+// How many games a search of `nodes` nodes finds, or the fault; how many bytes it wrote until then; their digest.
 fn written<R: Abort + AllocGlobal>(rt: &R, goal: &Goal, nodes: u64) -> Said {
     let mut sink = ToWrite::new(Vec::new(rt.alloc()));
     let found = count_of(&searched(rt.alloc(), goal, nodes, &mut sink));

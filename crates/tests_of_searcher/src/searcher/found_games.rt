@@ -47,7 +47,7 @@ fn all_games_are_found(rt: HostRuntime) {
     }
 }
 
-// A diagram, and a length of so many plies.
+// A diagram, and a length of `plies` plies.
 fn goal_at(rt: &impl Abort, diagram: &Diagram, plies: u8) -> Goal {
     Goal {
         diagram: *diagram,
@@ -100,7 +100,7 @@ fn step<R: Abort + AllocGlobal>(rt: &R, position: &Position, number: u64) -> Pos
     *all.get(pick as usize).unwrap_or(position)
 }
 
-// The position after so many moves by chance.
+// The position after `plies` moves by chance.
 fn wander<R: Abort + AllocGlobal>(rt: &R, plies: u8, seed: u64) -> Position {
     let mut position = Position::array();
     let mut state = seed;
@@ -111,7 +111,7 @@ fn wander<R: Abort + AllocGlobal>(rt: &R, plies: u8, seed: u64) -> Position {
     position
 }
 
-// Searches a diagram at a length of so many plies, and at that of a shorter game where there is one. Each certificate
+// Searches a diagram at a length of `plies` plies, and at that of a shorter game where there is one. Each certificate
 // has been checked. The answer is how many games there are at the length where the search ended, and whether that is
 // the first one.
 fn count_games<R: Abort + AllocGlobal>(rt: &R, diagram: &Diagram, plies: u8) -> (usize, bool) {

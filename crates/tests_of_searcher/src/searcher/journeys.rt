@@ -37,8 +37,8 @@ pub(super) fn searched_by_journeys<W: Sink>(
     )
 }
 
-// The games that a search by journeys of so many nodes finds, and how many records its certificate has, by a check with
-// the five bounds that the search was lent.
+// The games that a search by journeys finds within its limit of nodes, and how many records its certificate has, by a
+// check with the five bounds that the search was lent.
 #[derive(Drop)]
 struct Settled {
     games: Games,
@@ -82,7 +82,7 @@ rnbq1bnr/ppppp1p1/8/8/2k4p/2NPP3/PPP2PPP/RNBQ1RK1 | 6.5 => 1 536
 2bqr1k1/2p1ppbp/1pp4p/7n/r2P3P/8/P1P1PPP1/RNB1KBNR | 9.5 => 1 1959
 4r1k1/2p1ppbp/1p5p/2N2b1n/2rP4/q3P3/P1P1BPPP/RNB1K1NR | 12.0 => 1 1554";
 
-// A search of so many nodes settles the problem, and one of a node less does not.
+// A search of the row's number of nodes settles the problem, and one of a node less does not.
 fn check_nodes<R: Abort + AllocGlobal>(rt: &R, row: &str) {
     let (asked, wanted) = halves(rt, row, " => ");
     let goal = goal_of(rt, field(asked, 0), field(asked, 1));
@@ -128,7 +128,7 @@ fn cuts_by_journeys_want_their_bound(rt: HostRuntime) {
     }
 }
 
-// What a search of so many nodes finds, one by journeys finds with as many, and with no more records.
+// What a search of the row's number of nodes finds, one by journeys finds with as many, and with no more records.
 fn check_same<R: Abort + AllocGlobal>(rt: &R, row: &str) {
     let (asked, _) = halves(rt, row, " => ");
     let goal = goal_of(rt, field(asked, 0), field(asked, 1));

@@ -24,7 +24,7 @@ impl SearchProgress for Met {
     }
 }
 
-// How many games a search of so many nodes tells of, and what it answers.
+// How many games a search of `nodes` nodes tells of, and what it answers.
 fn told_of<R: Abort + AllocGlobal>(rt: &R, goal: &Goal, nodes: u64) -> Said {
     let mut watch = Met {
         games: 0,

@@ -45,7 +45,7 @@ fn count_priced(bytes: &[u8]) -> u64 {
     count
 }
 
-// The certificate of a problem has so many cuts by prices, or more than that.
+// Problems, and how many cuts by prices their certificates have at least and at most.
 const PRICED: &str = "four-knights-gone | 4.0 | 0 | 0
 r1bqnNnr/pppkpp1p/7R/3p4/8/8/PPPPPPP1/RNBQKBN1 | 5.5 | 1 | 428
 2bqr1k1/2pNppbp/1p5p/7n/1r1P4/8/P1P1PPPP/RNB1KBNR | 9.0 | 1001 | 9198";

@@ -4,8 +4,8 @@ use super::*;
 use pg_trial::{FailsAt, OneByte};
 use std::io::{ErrorKind, Write};
 
-// A search finds so many games, or answers so, and makes so many writes to this, and one more where the write with that
-// number, from 0, is refused; what it wrote to.
+// A search finds `wanted` games, or answers so, and makes `writes` writes to `inner`, the last of which is refused
+// where its number, from 0, is `at`; what it wrote to.
 fn written<R: Abort + AllocGlobal, W: Write + Drop>(
     rt: &R,
     goal: &Goal,

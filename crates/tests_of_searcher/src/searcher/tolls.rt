@@ -74,7 +74,7 @@ fn with_tolls<R: Abort + AllocGlobal>(
     all
 }
 
-// What a search by tariffs of so many nodes finds.
+// What a search by tariffs of `nodes` nodes finds.
 fn searched_by_tolls<W: Sink>(
     alloc: Global,
     goal: &Goal,
@@ -240,7 +240,7 @@ fn without_tariffs_the_bytes_are_those_by_journeys(rt: HostRuntime) {
     }
 }
 
-// What a search by tariffs of so many nodes answers.
+// What a search by tariffs of `nodes` nodes answers.
 fn said_by_tolls<R: Abort + AllocGlobal>(
     rt: &R,
     goal: &Goal,
@@ -266,7 +266,7 @@ fn nodes_by_tariffs_are_limited(rt: HostRuntime) {
     }
 }
 
-// Hears how many games are told, and ends a walk when it has been told how far it is so many times.
+// Hears how many games are told, and ends a walk when it has been told `more` times how far it is.
 #[derive(Drop)]
 struct Hearing {
     games: usize,
@@ -287,7 +287,7 @@ impl SearchProgress for Hearing {
     }
 }
 
-// What is found by so many nodes and turns at most.
+// What is found by `nodes` nodes and the turns of `watch` at most.
 fn found_by<R: Abort + AllocGlobal>(
     rt: &R,
     goal: &Goal,

@@ -2,7 +2,7 @@ use Rattle.std.proofs.Common.{◌≡◌, ℕ, ◌≤◌, ◌+◌, length, drop}
 use Rattle.pg_hints.specs.Places.{IsGameAt, length_left, pieces, pieces_left}
 use Rattle.pg_hints.proofs.places.line_of.Given as goal
 
--- so many lines are passed, and none of them is the game
+-- `number` lines are passed, and none of them is the game
 abbrev pub invariant-loop-rest : goal.invariant-loop-rest
 invariant-loop-rest l = record {
   few : l.number + length_left l.rest ≤ length l.fn.list + 1;
