@@ -1,7 +1,7 @@
 -- Assignments by costs where a row has no other column than one. Leads to the contracts of with.
-use Rattle.std.proofs.Common.{◌≡◌, ℕ, zero, suc, ◌<◌, ◌≤◌, inl, inr, Option, List, [], ◌∷◌, length, get_or, set, refl, sym, ap, subst, arith, ◌∙◌}
+use Rattle.std.proofs.Common.{◌≡◌, ℕ, ◌<◌, ◌≤◌, inl, inr, Option, List, [], length, get_or, replicate, set, refl, sym, ap, subst, arith, ◌∙◌}
 use Rattle.std.proofs.lemmas.Bool.Decides.{eqb_tells}
-use Rattle.std.proofs.lemmas.List.{get_or-set_same, get_or-set_other}
+use Rattle.std.proofs.lemmas.List.{get_or-replicate, get_or-set_same, get_or-set_other}
 use Rattle.pg_assignments.specs.declared.costs.Costs.{Costs}
 use Rattle.pg_assignments.specs.Assignments.{cost, IsAssignment, sum_of, IsTotal, IsTotalWith, IsLeast, IsLeastTotal, IsLeastWith, Below}
 use Rattle.pg_assignments.specs.Pinned.{IsPinned}
@@ -66,23 +66,7 @@ pinned_by k n i j x none low in_row all e = record {
 
 -- a row without costs
 abbrev pub no_costs : List ℕ
-no_costs = 255 ∷ 255 ∷ 255 ∷ 255 ∷ 255 ∷ 255 ∷ 255 ∷ 255 ∷ 255 ∷ 255 ∷ 255 ∷ 255 ∷ 255 ∷ 255 ∷ 255 ∷ 255 ∷ []
+no_costs = replicate 16 255
 
 pub no_costs_at : (b : ℕ) → b < 16 → get_or no_costs b 0 ≡ 255
-no_costs_at zero l = refl
-no_costs_at (suc zero) l = refl
-no_costs_at (suc (suc zero)) l = refl
-no_costs_at (suc (suc (suc zero))) l = refl
-no_costs_at (suc (suc (suc (suc zero)))) l = refl
-no_costs_at (suc (suc (suc (suc (suc zero))))) l = refl
-no_costs_at (suc (suc (suc (suc (suc (suc zero)))))) l = refl
-no_costs_at (suc (suc (suc (suc (suc (suc (suc zero))))))) l = refl
-no_costs_at (suc (suc (suc (suc (suc (suc (suc (suc zero)))))))) l = refl
-no_costs_at (suc (suc (suc (suc (suc (suc (suc (suc (suc zero))))))))) l = refl
-no_costs_at (suc (suc (suc (suc (suc (suc (suc (suc (suc (suc zero)))))))))) l = refl
-no_costs_at (suc (suc (suc (suc (suc (suc (suc (suc (suc (suc (suc zero))))))))))) l = refl
-no_costs_at (suc (suc (suc (suc (suc (suc (suc (suc (suc (suc (suc (suc zero)))))))))))) l = refl
-no_costs_at (suc (suc (suc (suc (suc (suc (suc (suc (suc (suc (suc (suc (suc zero))))))))))))) l = refl
-no_costs_at (suc (suc (suc (suc (suc (suc (suc (suc (suc (suc (suc (suc (suc (suc zero)))))))))))))) l = refl
-no_costs_at (suc (suc (suc (suc (suc (suc (suc (suc (suc (suc (suc (suc (suc (suc (suc zero))))))))))))))) l = refl
-no_costs_at (suc (suc (suc (suc (suc (suc (suc (suc (suc (suc (suc (suc (suc (suc (suc (suc n)))))))))))))))) l = absurd (omega arith)
+no_costs_at b l = get_or-replicate 16 b 255 0 l

@@ -1,7 +1,7 @@
 -- What the tests of ways show. Leads to the contracts of with_all.
-use Rattle.std.proofs.Common.{◌≡◌, ◌≢◌, ℕ, zero, suc, ◌+◌, ◌*◌, ◌<◌, ◌≤◌, ◌⊎◌, inl, inr, true, false, leb, Option, Some, None, List, [], ◌∷◌, length, get_or, set, refl, sym, ap, subst, arith, ◌∙◌}
+use Rattle.std.proofs.Common.{◌≡◌, ◌≢◌, ℕ, ◌+◌, ◌*◌, ◌<◌, ◌≤◌, ◌⊎◌, inl, inr, true, false, leb, Option, Some, None, List, [], length, get_or, replicate, set, refl, sym, ap, subst, arith, ◌∙◌}
 use Rattle.std.proofs.lemmas.Bool.Decides.{eqb_tells, leb_tells}
-use Rattle.std.proofs.lemmas.List.{get_or-set_same, get_or-set_other}
+use Rattle.std.proofs.lemmas.List.{get_or-replicate, get_or-set_same, get_or-set_other}
 use Rattle.pg_board.specs.Tally.{total}
 use Rattle.pg_assignments.specs.declared.costs.Costs.{Costs}
 use Rattle.pg_assignments.specs.Assignments.{cost, IsTotal, IsLeastTotal, IsLeastWith, IsTotalWith, Below, nth, at2, told, RowLeast, AreLeastWith}
@@ -116,48 +116,16 @@ row_next k i out j m x e low here before = λ q l. elim (eqb_tells q j) [
 
 -- ---- no assignment at all
 abbrev pub none_row : List ℕ
-none_row = 65535 ∷ 65535 ∷ 65535 ∷ 65535 ∷ 65535 ∷ 65535 ∷ 65535 ∷ 65535 ∷ 65535 ∷ 65535 ∷ 65535 ∷ 65535 ∷ 65535 ∷ 65535 ∷ 65535 ∷ 65535 ∷ []
+none_row = replicate 16 65535
 
 none_row_at : (j : ℕ) → j < 16 → get_or none_row j 0 ≡ 65535
-none_row_at zero l = refl
-none_row_at (suc zero) l = refl
-none_row_at (suc (suc zero)) l = refl
-none_row_at (suc (suc (suc zero))) l = refl
-none_row_at (suc (suc (suc (suc zero)))) l = refl
-none_row_at (suc (suc (suc (suc (suc zero))))) l = refl
-none_row_at (suc (suc (suc (suc (suc (suc zero)))))) l = refl
-none_row_at (suc (suc (suc (suc (suc (suc (suc zero))))))) l = refl
-none_row_at (suc (suc (suc (suc (suc (suc (suc (suc zero)))))))) l = refl
-none_row_at (suc (suc (suc (suc (suc (suc (suc (suc (suc zero))))))))) l = refl
-none_row_at (suc (suc (suc (suc (suc (suc (suc (suc (suc (suc zero)))))))))) l = refl
-none_row_at (suc (suc (suc (suc (suc (suc (suc (suc (suc (suc (suc zero))))))))))) l = refl
-none_row_at (suc (suc (suc (suc (suc (suc (suc (suc (suc (suc (suc (suc zero)))))))))))) l = refl
-none_row_at (suc (suc (suc (suc (suc (suc (suc (suc (suc (suc (suc (suc (suc zero))))))))))))) l = refl
-none_row_at (suc (suc (suc (suc (suc (suc (suc (suc (suc (suc (suc (suc (suc (suc zero)))))))))))))) l = refl
-none_row_at (suc (suc (suc (suc (suc (suc (suc (suc (suc (suc (suc (suc (suc (suc (suc zero))))))))))))))) l = refl
-none_row_at (suc (suc (suc (suc (suc (suc (suc (suc (suc (suc (suc (suc (suc (suc (suc (suc n)))))))))))))))) l = absurd (omega arith)
+none_row_at j l = get_or-replicate 16 j 65535 0 l
 
 abbrev pub none_rows : List (List ℕ)
-none_rows = none_row ∷ none_row ∷ none_row ∷ none_row ∷ none_row ∷ none_row ∷ none_row ∷ none_row ∷ none_row ∷ none_row ∷ none_row ∷ none_row ∷ none_row ∷ none_row ∷ none_row ∷ none_row ∷ []
+none_rows = replicate 16 none_row
 
 none_rows_at : (i : ℕ) → i < 16 → get_or none_rows i [] ≡ none_row
-none_rows_at zero l = refl
-none_rows_at (suc zero) l = refl
-none_rows_at (suc (suc zero)) l = refl
-none_rows_at (suc (suc (suc zero))) l = refl
-none_rows_at (suc (suc (suc (suc zero)))) l = refl
-none_rows_at (suc (suc (suc (suc (suc zero))))) l = refl
-none_rows_at (suc (suc (suc (suc (suc (suc zero)))))) l = refl
-none_rows_at (suc (suc (suc (suc (suc (suc (suc zero))))))) l = refl
-none_rows_at (suc (suc (suc (suc (suc (suc (suc (suc zero)))))))) l = refl
-none_rows_at (suc (suc (suc (suc (suc (suc (suc (suc (suc zero))))))))) l = refl
-none_rows_at (suc (suc (suc (suc (suc (suc (suc (suc (suc (suc zero)))))))))) l = refl
-none_rows_at (suc (suc (suc (suc (suc (suc (suc (suc (suc (suc (suc zero))))))))))) l = refl
-none_rows_at (suc (suc (suc (suc (suc (suc (suc (suc (suc (suc (suc (suc zero)))))))))))) l = refl
-none_rows_at (suc (suc (suc (suc (suc (suc (suc (suc (suc (suc (suc (suc (suc zero))))))))))))) l = refl
-none_rows_at (suc (suc (suc (suc (suc (suc (suc (suc (suc (suc (suc (suc (suc (suc zero)))))))))))))) l = refl
-none_rows_at (suc (suc (suc (suc (suc (suc (suc (suc (suc (suc (suc (suc (suc (suc (suc zero))))))))))))))) l = refl
-none_rows_at (suc (suc (suc (suc (suc (suc (suc (suc (suc (suc (suc (suc (suc (suc (suc (suc n)))))))))))))))) l = absurd (omega arith)
+none_rows_at i l = get_or-replicate 16 i none_row [] l
 
 pub none_with : (k : Costs) → k.size ≤ 16 → IsLeastTotal k None → AreLeastWith k none_rows k.size
 none_with k few h = λ i j l m.
