@@ -15,7 +15,7 @@ say() {
 # Looks for a game to the diagram $2 and the length $3 beside the game $4, with the words behind it. $1 is like the line that is to stand
 # below that game: it says that another was found, or a shorter one, or none.
 look() {
-  local wanted=$1 problem="$2 $3" diagram=$2 length=$3 status said games=2
+  local wanted=$1 problem="$2 $3" diagram=$2 length=$3 status said games=2 lines=8
   echo "$4" >"$work/list"
   "$pg" cooks "$diagram" "$length" "$work/list" "${@:5}" >"$work/report" 2>"$work/error"
   status=$?
@@ -25,11 +25,14 @@ look() {
     none*) [ "$status $(wc -l <"$work/report")" = '0 5' ] || say "$problem" "status $status, or another line"; return ;;
     'a game of '*)
       : >"$work/list"
-      games=1 said=${said//[^0-9]/}
+      games=1 lines=7 said=${said//[^0-9]/}
       length=$((said / 2)).$((said % 2 * 5))
       ;;
   esac
-  [ "$status $(tail -n +7 "$work/report")" = '1 not sound' ] || say "$problem" "status $status, or not 'not sound'"
+  [ "$status $(wc -l <"$work/report") $(tail -n 1 "$work/report")" = "1 $lines not sound" ] ||
+    say "$problem" "status $status, or not 'not sound'"
+  [ "$lines" = 7 ] || [[ $(sed -n 7p "$work/report") == 'it parts from the first at move '* ]] ||
+    say "$problem" "not where the games part"
   sed -n 6p "$work/report" >>"$work/list"
   "$pg" games "$diagram" "$length" "$work/list" >"$work/report" 2>"$work/error"
   [ "$(sed -n 3p "$work/report")" = "games $games" ] || say "$problem" "what was found is no such game"

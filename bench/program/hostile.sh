@@ -245,7 +245,9 @@ expect 1 'pg: game 1 does not have the stated length' '(many 1000000 1; many 100
 
 # Problems of a file that are judged: bad lines are told and skipped.
 row() { printf '%s\t' "${@:1:5}"; echo "$6"; }
-orders_row=$(row orders 1.5 cooked - 'search, 63 nodes' '2 games: 1. d3 e6 2. e3; 1. e3 e6 2. d3')
+apart=' at move 1 of White, with the same moves in another order' # the two games of that problem
+parted="the first two part$apart"
+orders_row=$(row orders 1.5 cooked - 'search, 63 nodes' '2 games: 1. d3 e6 2. e3; 1. e3 e6 2. d3; they part'"$apart")
 array_row=$(row array 0.0 sound solves 'search, 0 nodes' -)
 while IFS='|' read -r status list said printed; do
   printf -- "$list" >"$work/list"
@@ -279,8 +281,8 @@ expect 0 '' '"$pg" search $array 0 new.pgc --minutes 0.5 --nodes 1 >/dev/null; r
 
 # Certificates in a folder: one is put there, checked in place of a search, told where it is refused, and replaced.
 mkdir "$work/proofs"
-standing_row=$(row orders 1.5 cooked - 'certificate, 63 records' '2 games: 1. d3 e6 2. e3; 1. e3 e6 2. d3')
-replaced_row=$(row orders 1.5 cooked - 'search, 63 nodes, old certificate refused' '2 games: 1. d3 e6 2. e3; 1. e3 e6 2. d3')
+standing_row=$(row orders 1.5 cooked - 'certificate, 63 records' '2 games: 1. d3 e6 2. e3; 1. e3 e6 2. d3; they part'"$apart")
+replaced_row=$(row orders 1.5 cooked - 'search, 63 nodes, old certificate refused' '2 games: 1. d3 e6 2. e3; 1. e3 e6 2. d3; they part'"$apart")
 expect 1 '' '"$pg" judge ../list --certificates ../proofs' "$orders_row"
 expect 1 '' '"$pg" judge ../list --certificates ../proofs --nodes 0' "$standing_row"
 head -c -1 "$work/proofs/orders.pgc" >"$work/cut"
@@ -301,10 +303,10 @@ for words in '$queen 2.0' '$queen' '$queen 2.0 --game "e4 d5 exd5 Qxd5"' '$queen
   expect 0 '' "\"\$pg\" solve $words | cmp - report" ''
 done
 expect 0 '' '"$pg" solve $queen 2.0 --keep ../solved.pgc >/dev/null; "$pg" answer ../solved.pgc | cmp - report' ''
-expect 1 '' '"$pg" solve $orders 1.5' "$(report_of $orders 1.5 'games 2' '1. d3 e6 2. e3' '1. e3 e6 2. d3' 'not sound')"
-expect 1 '' '"$pg" solve $orders 1.5 --all' "$(report_of $orders 1.5 'games 2' '1. d3 e6 2. e3' '1. e3 e6 2. d3' cooked)"
+expect 1 '' '"$pg" solve $orders 1.5' "$(report_of $orders 1.5 'games 2' '1. d3 e6 2. e3' '1. e3 e6 2. d3' "$parted" 'not sound')"
+expect 1 '' '"$pg" solve $orders 1.5 --all' "$(report_of $orders 1.5 'games 2' '1. d3 e6 2. e3' '1. e3 e6 2. d3' "$parted" cooked)"
 expect 1 '' '"$pg" solve $orders 1.5 --game "e3 e6 d3"' \
-  "$(report_of $orders 1.5 'games 1' '1. e3 e6 2. d3' 'another game' '1. d3 e6 2. e3' 'not sound')"
+  "$(report_of $orders 1.5 'games 1' '1. e3 e6 2. d3' 'another game' '1. d3 e6 2. e3' "it parts from the first$apart" 'not sound')"
 expect 1 '' '"$pg" solve $queen 3.0' \
   "$(report_of $queen 3.0 'games 0' 'a game of 4 plies' '1. e4 d5 2. exd5 Qxd5' 'not sound')"
 expect 1 '' '"$pg" solve $open 0.5' "$(report_of $open 0.5 'games 0' 'no game')"
@@ -326,7 +328,7 @@ done <<END
 2|games $open 1. ../list|1. e4 e6|bad length|
 2|games $open 1.0 ../list|\xff|games are not UTF-8|
 4|games $open 1.0 none||cannot open none|
-1|cooks $orders 1.5 ../list|1. e3 e6 2. d3||diagram $orders\nlength 1.5\ngames 1\n1. e3 e6 2. d3\nanother game\n1. d3 e6 2. e3\nnot sound
+1|cooks $orders 1.5 ../list|1. e3 e6 2. d3||diagram $orders\nlength 1.5\ngames 1\n1. e3 e6 2. d3\nanother game\n1. d3 e6 2. e3\nit parts from the first$apart\nnot sound
 0|cooks $orders 1.5 ../list --nodes 0|1. e3 e6 2. d3||diagram $orders\nlength 1.5\ngames 1\n1. e3 e6 2. d3\nnone found: node limit reached
 0|cooks $first 0.5 ../list|1. e4||diagram $first\nlength 0.5\ngames 1\n1. e4\nnone: the search went through all games
 1|cooks $orders 1.5 ../list|1. e3 e6 2. d3\n1. d3 e6 2. e3||diagram $orders\nlength 1.5\ngames 2\n1. d3 e6 2. e3\n1. e3 e6 2. d3\nnone: the search went through all games\nnot sound

@@ -134,7 +134,7 @@ judges() {
 
 # The row of the first problem by what it was found: by $1; with the verdict $2 and the games $3, where it is another.
 found() {
-  printf 'orders\t1.5\t%s\t-\t%s\t%s\n' "${2-cooked}" "$1" "${3-2 games: 1. d3 e6 2. e3; 1. e3 e6 2. d3}"
+  printf 'orders\t1.5\t%s\t-\t%s\t%s\n' "${2-cooked}" "$1" "${3-2 games: 1. d3 e6 2. e3; 1. e3 e6 2. d3; they part at move 1 of White, with the same moves in another order}"
 }
 
 # Puts in the folder F what the command $1 makes there, and nothing else.

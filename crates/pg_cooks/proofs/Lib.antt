@@ -1,4 +1,5 @@
 pub mod CookLemmas
 mod FoundLemmas
 mod KnownLemmas
+mod PartingLemmas
 mod TextLemmas

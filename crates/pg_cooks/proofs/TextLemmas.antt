@@ -33,7 +33,7 @@ standing_grows d plies games s words a b c is same (front, is_front, grows) last
     )
 
 -- these, and what was found
-pub cooks_grow : (d : Placement) (plies : ℕ) (games : List (List Move)) (answer : CookAnswer) (a b c : Option (List ℕ)) → AddsSome (IsKnownText d plies games) a b → AddsSome (IsAnswerText answer) b c
+pub cooks_grow : (d : Placement) (plies : ℕ) (games : List (List Move)) (answer : CookAnswer) (a b c : Option (List ℕ)) → AddsSome (IsKnownText d plies games) a b → AddsSome (IsAnswerText games answer) b c
     → AddsSome (IsCooksReport d plies games answer) a c
 cooks_grow d plies games answer a b c (front, is_front, grows) (last, is_last, more) = (
   front ++ last,
@@ -41,18 +41,18 @@ cooks_grow d plies games answer a b c (front, is_front, grows) (last, is_last, m
   Appends-trans a b c front last grows more,
 )
 
--- the movetext of a game, and the last line
-pub end_grows : (game : List Move) (a b c : Option (List ℕ)) → AddsLine (IsMovetext game) a b → Appends b c (line_text (codes "not sound")) → AddsSome (IsEndText game) a c
-end_grows game a b c (line, is, grows) last = (
-  line_text line ++ line_text (codes "not sound"),
+-- the movetext of a game, and what stands behind it
+pub end_grows : (last : List ℕ) (game : List Move) (a b c : Option (List ℕ)) → AddsLine (IsMovetext game) a b → Appends b c last → AddsSome (IsEndText last game) a c
+end_grows last game a b c (line, is, grows) more = (
+  line_text line ++ last,
   (line, is, refl),
-  Appends-trans a b c (line_text line) (line_text (codes "not sound")) grows last,
+  Appends-trans a b c (line_text line) last grows more,
 )
 
 -- the line that says what a game is, and the lines of the game
-pub found_grows : (what : List ℕ) (game : List Move) (a b c : Option (List ℕ)) → Appends a b what → AddsSome (IsEndText game) b c
-    → AddsSome (IsFoundText what game) a c
-found_grows what game a b c first (rest, is, grows) = (what ++ rest, (rest, is, refl), Appends-trans a b c what rest first grows)
+pub found_grows : (what last : List ℕ) (game : List Move) (a b c : Option (List ℕ)) → Appends a b what → AddsSome (IsEndText last game) b c
+    → AddsSome (IsFoundText what last game) a c
+found_grows what last game a b c first (rest, is, grows) = (what ++ rest, (rest, is, refl), Appends-trans a b c what rest first grows)
 
 -- that no game was found, with how many foreign moves at most
 pub within_grows : (o : Option ℕ) (n : ℕ) (number words : List ℕ) (w x y z : Option (List ℕ)) → o ≡ Some n → number ≡ decimal n → words ≡ foreign_text n → Appends w x (codes "none with at most ") → Appends x y number → Appends y z words

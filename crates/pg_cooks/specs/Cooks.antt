@@ -18,6 +18,7 @@ use Rattle.pg_cooks.specs.declared.fault.CooksRunFault.{CooksRunFault}
 use Rattle.pg_cooks.specs.declared.fault.CooksRunFault.TheVariants as run
 use Rattle.pg_cooks.specs.declared.standing.Standing.{Standing}
 use Rattle.pg_cooks.specs.declared.standing.Standing.TheVariants.{NotSound, AtLeastOne, NoneGiven}
+use Rattle.pg_cooks.specs.Parting.{apart_text}
 use Rattle.pg_cooks.specs.Standing.{IsKnownText, IsStanding}
 use Rattle.pg_cooks.specs.Unsound.{IsUnsound, HasNoAnswer, IsStandingTrue}
 
@@ -49,21 +50,28 @@ IsTold (Cook game) = IsFromArray game.items
 IsTold (Shorter game) = IsFromArray game.items
 IsTold (NotFound foreign nodes end standing) = Unit {0}
 
--- the movetext of a game that is found, and that the problem is not sound
-abbrev pub IsEndText : List Move → List ℕ → Type 0
-IsEndText game text = (line : List ℕ) × IsMovetext game line × (text ≡ line_text line ++ line_text (codes "not sound"))
+-- that the problem is not sound; and before it, where another game parts from the first that is known
+abbrev pub unsound_text : List ℕ
+unsound_text = line_text (codes "not sound")
 
--- the line that says what the game is, and these two
-abbrev pub IsFoundText : List ℕ → List Move → List ℕ → Type 0
-IsFoundText what game text = (rest : List ℕ) × IsEndText game rest × (text ≡ what ++ rest)
+abbrev pub cook_text : List (List Move) → List Move → List ℕ
+cook_text games game = apart_text (codes "it parts from the first") games game (codes "\n") ++ unsound_text
 
--- those of another game, and of a shorter one
-abbrev pub IsCookText : List Move → List ℕ → Type 0
-IsCookText game text = IsFoundText (line_text (codes "another game")) game text
+-- the movetext of a game that is found, and what stands behind it
+abbrev pub IsEndText : List ℕ → List Move → List ℕ → Type 0
+IsEndText last game text = (line : List ℕ) × IsMovetext game line × (text ≡ line_text line ++ last)
+
+-- the line that says what the game is, and these
+abbrev pub IsFoundText : List ℕ → List ℕ → List Move → List ℕ → Type 0
+IsFoundText what last game text = (rest : List ℕ) × IsEndText last game rest × (text ≡ what ++ rest)
+
+-- those of another game beside some that are known, and of a shorter one
+abbrev pub IsCookText : List (List Move) → List Move → List ℕ → Type 0
+IsCookText games game text = IsFoundText (line_text (codes "another game")) (cook_text games game) game text
 
 abbrev pub IsShorterText : List Move → List ℕ → Type 0
 IsShorterText game text =
-    IsFoundText (codes "a game of " ++ (decimal (length game) ++ line_text (codes " plies"))) game text
+    IsFoundText (codes "a game of " ++ (decimal (length game) ++ line_text (codes " plies"))) unsound_text game text
 
 -- the words behind a number of foreign moves
 abbrev pub foreign_text : ℕ → List ℕ
@@ -82,15 +90,15 @@ unfound_text foreign Nodes = within_text foreign ++ line_text (codes ": node lim
 
 -- that line, and the one that the problem is not sound where the listed games say it by themselves
 abbrev pub none_text : Option ℕ → LedEnd → Standing → List ℕ
-none_text foreign end NotSound = unfound_text foreign end ++ line_text (codes "not sound")
+none_text foreign end NotSound = unfound_text foreign end ++ unsound_text
 none_text foreign end AtLeastOne = unfound_text foreign end
 none_text foreign end NoneGiven = unfound_text foreign end
 
--- the lines of an answer
-abbrev pub IsAnswerText : CookAnswer → List ℕ → Type 0
-IsAnswerText (Cook game) text = IsCookText game.items text
-IsAnswerText (Shorter game) text = IsShorterText game.items text
-IsAnswerText (NotFound foreign nodes end standing) text = text ≡ none_text foreign end standing
+-- the lines of an answer, beside some games
+abbrev pub IsAnswerText : List (List Move) → CookAnswer → List ℕ → Type 0
+IsAnswerText games (Cook game) text = IsCookText games game.items text
+IsAnswerText games (Shorter game) text = IsShorterText game.items text
+IsAnswerText games (NotFound foreign nodes end standing) text = text ≡ none_text foreign end standing
 
 -- the report of a diagram, a length in plies, games that are known and what was found beside them
 pub record IsCooksReport (diagram : Placement) (plies : ℕ) (games : List (List Move)) (answer : CookAnswer)
@@ -99,7 +107,7 @@ pub record IsCooksReport (diagram : Placement) (plies : ℕ) (games : List (List
   pub front : List ℕ
   pub last : List ℕ
   pub is_front : IsKnownText diagram plies games front
-  pub is_last : IsAnswerText answer last
+  pub is_last : IsAnswerText games answer last
   pub is : text ≡ front ++ last
 
 -- ---- refusals

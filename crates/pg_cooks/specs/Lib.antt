@@ -1,4 +1,5 @@
 pub mod Standing
 pub mod Unsound
 pub mod Known
+pub mod Parting
 pub mod Cooks

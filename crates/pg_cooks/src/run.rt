@@ -99,7 +99,8 @@ pub fn write_solutions<W: Sink>(
 /// Looks for a game beside the solutions of a problem that a list has, as `cooks` does, and writes what is known then.
 /// The lines, each ended by a line feed: `diagram ` and the placement; `length ` and the length; `games ` and their
 /// number; the movetext of each game, in canonical order; then `another game`, or `a game of `, its number of plies and
-/// ` plies`, with the movetext of that game below and then `not sound`. Where none is found: `none: the search went
+/// ` plies`, with the movetext of that game below, below another game where it parts from the first, as `write_cook`
+/// tells it, and then `not sound`. Where none is found: `none: the search went
 /// through all games`; or `none with at most `, a number and ` foreign move` or ` foreign moves`, or `none found` where
 /// not even the games without foreign moves were gone through, and then `: no more were allowed` or `: node limit
 /// reached`; and below it `not sound` where two games or more are listed. The game that is written is tested, whatever

@@ -5,9 +5,10 @@ ghost use Rattle.pg_san.specs.Games.{IsFromArray};
 ghost use Rattle.pg_texts.specs.Report.{line_text};
 ghost use Rattle.pg_cooks.specs.Standing.{IsKnownText, IsStanding, IsGamesReport};
 ghost use Rattle.pg_cooks.specs.Cooks.{IsAnswerText, IsCookText, IsCooksReport, IsEndText, IsShorterText, IsTold};
-ghost use Rattle.pg_cooks.specs.Cooks.{foreign_text, none_text, unfound_text, within_text};
+ghost use Rattle.pg_cooks.specs.Cooks.{cook_text, foreign_text, none_text, unfound_text, unsound_text, within_text};
 
 use crate::finding::CookAnswer;
+use crate::parting::write_apart;
 use crate::standing::{Standing, standing_of, standing_words};
 use pg_certificate::{Refused, Sink};
 use pg_fen::text::digits;
@@ -129,23 +130,43 @@ fn write_none<W: Sink>(
 // Appends a game that was found, behind the line that says what it is.
 fn write_found<W: Sink>(game: &[Move], out: &mut W) -> Result<(), Refused>
     requires { IsFromArray game.now }
-    ensures { Pushes W.held W.has_failed (AddsSome (IsEndText game.now)) out.old out.new result }
+    ensures { Pushes W.held W.has_failed (AddsSome (IsEndText unsound_text game.now)) out.old out.new result }
 {
     write_game(game, out)?;
     write_line("not sound", out)
 }
 
-/// Appends the lines of a game from the initial array that is another solution: `another game`, its movetext and `not
-/// sound`, each ended by a line feed. Nothing is tested here.
+// Appends where another game parts from the first that is known, and that the problem is not sound.
+fn write_parted<W: Sink>(games: &Games, game: &[Move], out: &mut W) -> Result<(), Refused>
+    ensures { Pushes W.held W.has_failed (Adds (cook_text games.now game.now)) out.old out.new result }
+{
+    write_apart("it parts from the first", games, game, "\n", out)?;
+    write_line("not sound", out)
+}
+
+// Appends another game that was found, behind the line that says so.
+fn write_other<W: Sink>(games: &Games, game: &[Move], out: &mut W) -> Result<(), Refused>
+    requires { IsFromArray game.now }
+    ensures { Pushes W.held W.has_failed
+        (AddsSome (IsEndText (cook_text games.now game.now) game.now)) out.old out.new result }
+{
+    write_game(game, out)?;
+    write_parted(games, game, out)
+}
+
+/// Appends the lines of a game from the initial array that is another solution beside games that are known: `another
+/// game`; its movetext; where it parts from the first of them, as `it parts from the first at move 4 of White`, and `,
+/// with the same moves in another order` behind it where each colour plays the same moves in both; and `not sound`. Each
+/// is ended by a line feed. Nothing is tested here.
 ///
 /// # Errors
 /// `Refused` where the sink has failed.
-pub fn write_cook<W: Sink>(game: &[Move], out: &mut W) -> Result<(), Refused>
+pub fn write_cook<W: Sink>(games: &Games, game: &[Move], out: &mut W) -> Result<(), Refused>
     requires { IsFromArray game.now }
-    ensures { Pushes W.held W.has_failed (AddsSome (IsCookText game.now)) out.old out.new result }
+    ensures { Pushes W.held W.has_failed (AddsSome (IsCookText games.now game.now)) out.old out.new result }
 {
     write_line("another game", out)?;
-    write_found(game, out)
+    write_other(games, game, out)
 }
 
 /// Appends the lines of a game from the initial array that is shorter than stated: `a game of `, its number of plies
@@ -162,12 +183,12 @@ pub fn write_shorter<W: Sink>(game: &[Move], out: &mut W) -> Result<(), Refused>
 }
 
 // Appends the lines of what was found beside games that are known.
-fn write_answer<W: Sink>(answer: &CookAnswer, out: &mut W) -> Result<(), Refused>
+fn write_answer<W: Sink>(games: &Games, answer: &CookAnswer, out: &mut W) -> Result<(), Refused>
     requires { IsTold answer.now }
-    ensures { Pushes W.held W.has_failed (AddsSome (IsAnswerText answer.now)) out.old out.new result }
+    ensures { Pushes W.held W.has_failed (AddsSome (IsAnswerText games.now answer.now)) out.old out.new result }
 {
     match answer {
-        CookAnswer::Cook(game) => write_cook(game.as_slice(), out),
+        CookAnswer::Cook(game) => write_cook(games, game.as_slice(), out),
         CookAnswer::Shorter(game) => write_shorter(game.as_slice(), out),
         CookAnswer::NotFound {
             foreign,
@@ -191,5 +212,5 @@ pub(crate) fn write_cooks<W: Sink>(
         (AddsSome (IsCooksReport diagram.now length games.now answer.now)) out.old out.new result }
 {
     write_known(diagram, length, games, out)?;
-    write_answer(answer, out)
+    write_answer(games, answer, out)
 }

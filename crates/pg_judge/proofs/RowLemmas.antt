@@ -11,11 +11,12 @@ use Rattle.pg_san.specs.Games.{IsFromArray}
 use Rattle.pg_checker.specs.Answer.{IsSolution}
 use Rattle.pg_fen.specs.Lengths.{length_text}
 use Rattle.pg_cooks.specs.Cooks.{foreign_text}
+use Rattle.pg_cooks.specs.Parting.{apart_text, pair_text}
 use Rattle.pg_texts.specs.Movetext.{AddsLongest, IsLongestGame, IsMovetext}
 use Rattle.pg_cooks.specs.Standing.{IsKnownText}
 use Rattle.pg_judge.specs.Findings.{IsBeside}
 use Rattle.pg_judge.specs.Ruling.{IsFinding, IsGiven}
-use Rattle.pg_judge.specs.Rows.{ArePair, AreShown, IsDetail, IsEvidenceText, IsNth, IsRowOf, IsTold, IsWritable, IsWritten, below_text, cooks_text, head_text}
+use Rattle.pg_judge.specs.Rows.{ArePair, AreShown, IsDetail, IsEvidenceText, IsNth, IsOther, IsRowOf, IsSecond, IsTold, IsWritable, IsWritten, below_text, cooks_text, head_text}
 use Rattle.pg_judge.specs.declared.entry.Entry.{Entry}
 use Rattle.pg_judge.specs.declared.given.Given.{Given}
 use Rattle.pg_judge.specs.declared.old.Old.{Old}
@@ -41,7 +42,14 @@ pub nth : (games : List (List Move)) (i : ℕ) (g : List Move) (a b : Option (Li
     → AddsSome (IsNth games i) a b
 nth games i g a b at (text, is, grows) = (text, (g, at, is), grows)
 
-pub pair : (games : List (List Move)) (a b c e : Option (List ℕ)) → AddsSome (IsNth games 0) a b → Appends b c (codes "; ") → AddsSome (IsNth games 1) c e
+pub second : (games : List (List Move)) (a b c : Option (List ℕ)) → AddsSome (IsNth games 1) a b → Appends b c (pair_text (codes "; they part") games (codes "")) → AddsSome (IsSecond games) a c
+second games a b c (y, is, first) more = (
+  y ++ pair_text (codes "; they part") games (codes ""),
+  (y, is, refl),
+  Appends-trans a b c y (pair_text (codes "; they part") games (codes "")) first more,
+)
+
+pub pair : (games : List (List Move)) (a b c e : Option (List ℕ)) → AddsSome (IsNth games 0) a b → Appends b c (codes "; ") → AddsSome (IsSecond games) c e
     → AddsSome (ArePair games) a e
 pair games a b c e (x, is, first) mark (y, has, second) = (
   x ++ (codes "; " ++ y),
@@ -77,9 +85,18 @@ more_shown words (x ∷ y ∷ more) n a b c is many first (both, are, second) =
 pub told : (label : List ℕ) (game : List Move) (a b c : Option (List ℕ)) → Appends a b label → AddsSome (IsMovetext game) b c → AddsSome (IsTold label game) a c
 told label game a b c first (moves, is, second) = (label ++ moves, (moves, is, refl), Appends-trans a b c label moves first second)
 
-pub games_text : (e : Evidence) (list : List (List Move)) (a b : Option (List ℕ)) → e ≡ Several list → AddsSome (AreShown (codes " games met: ") list) a b
-    → AddsSome (IsEvidenceText e) a b
-games_text e list a b is h = subst (λ (x : Evidence). AddsSome (IsEvidenceText x) a b) (sym is) h
+pub games_text : (author : List (List Move)) (e : Evidence) (list : List (List Move)) (a b : Option (List ℕ)) → e ≡ Several list → AddsSome (AreShown (codes " games met: ") list) a b
+    → AddsSome (IsEvidenceText author e) a b
+games_text author e list a b is h = subst (λ (x : Evidence). AddsSome (IsEvidenceText author x) a b) (sym is) h
+
+-- another game, and where it parts from the first of the author's
+pub other : (author : List (List Move)) (game : List Move) (a b c : Option (List ℕ)) → AddsSome (IsTold (codes "another game: ") game) a b → Appends b c (apart_text (codes "; they part") author game (codes ""))
+    → AddsSome (IsOther author game) a c
+other author game a b c (told, is, first) more = (
+  told ++ apart_text (codes "; they part") author game (codes ""),
+  (told, is, refl),
+  Appends-trans a b c told (apart_text (codes "; they part") author game (codes "")) first more,
+)
 
 -- ---- what may be written
 from_array : (d : Placement) (n : ℕ) (g : List Move) → IsSolution d n g → IsFromArray g
@@ -100,7 +117,7 @@ written d n author (NotSettled known) h = tt
 -- ---- a row
 pub row : (entry : Entry) (ruling : Ruling) (old : Old) (given : Given) (a b c e : Option (List ℕ))
     → IsGiven entry.problem.diagram entry.problem.length entry.games given
-    → Appends a b (head_text entry.name.now entry.problem.length given ruling old) → AddsSome (IsDetail ruling.finding) b c
+    → Appends a b (head_text entry.name.now entry.problem.length given ruling old) → AddsSome (IsDetail entry.games ruling.finding) b c
     → Appends c e (codes "\n") → AddsSome (IsRowOf entry ruling old) a e
 row entry ruling old given a b c e is first (detail, tells, second) last =
     let head = head_text entry.name.now entry.problem.length given ruling old in (

@@ -8,6 +8,7 @@ use Rattle.pg_san.specs.Games.{IsFromArray}
 use Rattle.pg_texts.specs.Movetext.{IsMovetext}
 use Rattle.pg_texts.specs.Report.{verdict_text}
 use Rattle.pg_cooks.specs.Cooks.{foreign_text}
+use Rattle.pg_cooks.specs.Parting.{apart_text, pair_text}
 use Rattle.pg_judge.specs.Ruling.{IsGiven}
 use Rattle.pg_judge.specs.declared.entry.Entry.{Entry}
 use Rattle.pg_judge.specs.declared.given.Given.{Given}
@@ -75,9 +76,14 @@ reason_text reason.Refused = codes "certificate refused"
 abbrev pub IsNth : List (List Move) → ℕ → List ℕ → Type 0
 IsNth games i text = (g : List Move) × (slice_get games i ≡ Some g) × IsMovetext g text
 
--- the first two
+-- the second, and where the first two part
+abbrev pub IsSecond : List (List Move) → List ℕ → Type 0
+IsSecond games text =
+    (y : List ℕ) × IsNth games 1 y × (text ≡ y ++ pair_text (codes "; they part") games (codes ""))
+
+-- the first two, and where they part
 abbrev pub ArePair : List (List Move) → List ℕ → Type 0
-ArePair games text = (x : List ℕ) × (y : List ℕ) × IsNth games 0 x × IsNth games 1 y × (text ≡ x ++ (codes "; " ++ y))
+ArePair games text = (x : List ℕ) × (y : List ℕ) × IsNth games 0 x × IsSecond games y × (text ≡ x ++ (codes "; " ++ y))
 
 -- no game is a hyphen, and one is its movetext; of more their number stands before the first two, and words behind it
 abbrev pub AreShown : List ℕ → List (List Move) → List ℕ → Type 0
@@ -90,11 +96,16 @@ AreShown words (a ∷ b ∷ more) text = (pair : List ℕ) × ArePair (a ∷ b �
 abbrev pub IsTold : List ℕ → List Move → List ℕ → Type 0
 IsTold label game text = (moves : List ℕ) × IsMovetext game moves × (text ≡ label ++ moves)
 
--- what shows that a problem is not sound
-abbrev pub IsEvidenceText : Evidence → List ℕ → Type 0
-IsEvidenceText (Several games) text = AreShown (codes " games met: ") games text
-IsEvidenceText (Another game) text = IsTold (codes "another game: ") game.items text
-IsEvidenceText (Shorter game) text =
+-- another game, and where it parts from the first of the author's
+abbrev pub IsOther : List (List Move) → List Move → List ℕ → Type 0
+IsOther author game text = (told : List ℕ) × IsTold (codes "another game: ") game told
+    × (text ≡ told ++ apart_text (codes "; they part") author game (codes ""))
+
+-- what shows that a problem is not sound, beside the author's games
+abbrev pub IsEvidenceText : List (List Move) → Evidence → List ℕ → Type 0
+IsEvidenceText author (Several games) text = AreShown (codes " games met: ") games text
+IsEvidenceText author (Another game) text = IsOther author game.items text
+IsEvidenceText author (Shorter game) text =
     IsTold (codes "a game of " ++ (decimal (length game.items) ++ codes " plies: ")) game.items text
 
 -- ---- what is known
@@ -118,11 +129,11 @@ known_text known = met_text known.games
     ++ (below_text known.below ++ (cooks_text known.foreign ++ (codes "; " ++ reason_text known.reason)))
 
 -- ---- a row
--- the last column of what is found
-abbrev pub IsDetail : Finding → List ℕ → Type 0
-IsDetail (Settled verdict games) text = AreShown (codes " games: ") games text
-IsDetail (NotSound evidence) text = IsEvidenceText evidence text
-IsDetail (NotSettled known) text = text ≡ known_text known
+-- the last column of what is found, beside the author's games
+abbrev pub IsDetail : List (List Move) → Finding → List ℕ → Type 0
+IsDetail author (Settled verdict games) text = AreShown (codes " games: ") games text
+IsDetail author (NotSound evidence) text = IsEvidenceText author evidence text
+IsDetail author (NotSettled known) text = text ≡ known_text known
 
 -- the columns before the last, each with a tab behind it: of a problem of this name and length in plies, whose author's
 -- game is so, of what is found, and of a certificate that stood there
@@ -132,16 +143,18 @@ head_text name plies given ruling old = (name ++ (codes "\t" ++ (length_text pli
     ++ (means_text ruling.means ++ (old_text old ++ codes "\t")))
 
 -- a row: these columns, the last one, and a line feed
-pub record IsRow (name : List ℕ) (plies : ℕ) (given : Given) (ruling : Ruling) (old : Old) (text : List ℕ) : Type 0 where
+pub record IsRow (name : List ℕ) (plies : ℕ) (author : List (List Move)) (given : Given) (ruling : Ruling) (old : Old)
+    (text : List ℕ)
+    : Type 0 where
   pub detail : List ℕ
-  pub is_detail : IsDetail ruling.finding detail
+  pub is_detail : IsDetail author ruling.finding detail
   pub is : text ≡ head_text name plies given ruling old ++ (detail ++ codes "\n")
 
 -- the row of a problem, of what is found and by what, and of a certificate that stood there
 abbrev pub IsRowOf : Entry → Ruling → Old → List ℕ → Type 0
 IsRowOf entry ruling old text = (given : Given)
     × IsGiven entry.problem.diagram entry.problem.length entry.games given
-    × IsRow entry.name.now entry.problem.length given ruling old text
+    × IsRow entry.name.now entry.problem.length entry.games given ruling old text
 
 -- ---- what is written
 -- each game that is told is one from the initial array

@@ -6,7 +6,8 @@ ghost use Rattle.pg_texts.specs.Movetext.{IsMovetext};
 ghost use Rattle.pg_texts.specs.Report.{verdict_text};
 ghost use Rattle.pg_cooks.specs.Cooks.{foreign_text};
 ghost use Rattle.pg_judge.specs.Ruling.{IsFindingOf};
-ghost use Rattle.pg_judge.specs.Rows.{ArePair, AreShown, IsDetail, IsEvidenceText, IsNth, IsRowOf, IsTold, IsWritable};
+ghost use Rattle.pg_judge.specs.Rows.{ArePair, AreShown, IsDetail, IsEvidenceText, IsNth, IsOther, IsRowOf, IsSecond};
+ghost use Rattle.pg_judge.specs.Rows.{IsTold, IsWritable};
 ghost use Rattle.pg_judge.specs.Rows.{IsWritten, below_text, cooks_text, effort_text, finding_text, given_text};
 ghost use Rattle.pg_judge.specs.Rows.{head_text, known_text, means_text, reason_text, old_text};
 
@@ -16,6 +17,7 @@ use crate::old::Old;
 use crate::progress::Effort;
 use crate::ruling::{Evidence, Finding, Known, Means, Reason, Ruling};
 use pg_certificate::{Refused, Sink, WriteFault};
+use pg_cooks::{write_apart, write_pair_apart};
 use pg_fen::Length;
 use pg_fen::text::digits;
 use pg_position::Move;
@@ -23,7 +25,7 @@ use pg_san::Games;
 use pg_texts::{Verdict, write_movetext};
 
 // The words for a verdict.
-fn verdict_words(verdict: Verdict) -> &'static str
+pub(crate) fn verdict_words(verdict: Verdict) -> &'static str
     ensures { result.now ≡ verdict_text verdict }
 {
     match verdict {
@@ -201,14 +203,23 @@ fn write_nth<W: Sink>(games: &Games, i: usize, out: &mut W) -> Result<(), Refuse
     write_moves(game, out)
 }
 
-// Appends the movetexts of the first two games of a list.
+// Appends the movetext of the second game of a list, and where the first two part.
+fn write_second<W: Sink>(games: &Games, out: &mut W) -> Result<(), Refused>
+    requires { 2 ≤ length_of games.now }
+    ensures { Pushes W.held W.has_failed (AddsSome (IsSecond games.now)) out.old out.new result }
+{
+    write_nth(games, 1, out)?;
+    write_pair_apart("; they part", games, "", out)
+}
+
+// Appends the movetexts of the first two games of a list, and where they part.
 fn write_pair<W: Sink>(games: &Games, out: &mut W) -> Result<(), Refused>
     requires { 2 ≤ length_of games.now }
     ensures { Pushes W.held W.has_failed (AddsSome (ArePair games.now)) out.old out.new result }
 {
     write_nth(games, 0, out)?;
     out.push(b"; ")?;
-    write_nth(games, 1, out)
+    write_second(games, out)
 }
 
 // Appends the games of a list: none, one, or how many there are and the first two.
@@ -244,14 +255,23 @@ fn write_shorter<W: Sink>(game: &[Move], out: &mut W) -> Result<(), Refused>
     write_moves(game, out)
 }
 
-// Appends what shows that a problem is not sound.
-fn write_evidence<W: Sink>(evidence: &Evidence, out: &mut W) -> Result<(), Refused>
+// Appends another game, and where it parts from the first of the author's.
+fn write_other<W: Sink>(author: &Games, game: &[Move], out: &mut W) -> Result<(), Refused>
+    requires { IsFromArray game.now }
+    ensures { Pushes W.held W.has_failed (AddsSome (IsOther author.now game.now)) out.old out.new result }
+{
+    write_told("another game: ", game, out)?;
+    write_apart("; they part", author, game, "", out)
+}
+
+// Appends what shows that a problem is not sound, beside the author's games.
+fn write_evidence<W: Sink>(author: &Games, evidence: &Evidence, out: &mut W) -> Result<(), Refused>
     requires { IsWritable evidence.now }
-    ensures { Pushes W.held W.has_failed (AddsSome (IsEvidenceText evidence.now)) out.old out.new result }
+    ensures { Pushes W.held W.has_failed (AddsSome (IsEvidenceText author.now evidence.now)) out.old out.new result }
 {
     match evidence {
         Evidence::Several(games) => write_list(" games met: ", games, out),
-        Evidence::Another(game) => write_told("another game: ", game.as_slice(), out),
+        Evidence::Another(game) => write_other(author, game.as_slice(), out),
         Evidence::Shorter(game) => write_shorter(game.as_slice(), out),
     }
 }
@@ -296,13 +316,13 @@ pub(crate) fn write_known<W: Sink>(known: &Known, out: &mut W) -> Result<(), Ref
 }
 
 // Appends the last column.
-fn write_detail<W: Sink>(finding: &Finding, out: &mut W) -> Result<(), Refused>
+fn write_detail<W: Sink>(author: &Games, finding: &Finding, out: &mut W) -> Result<(), Refused>
     requires { IsWritten finding.now }
-    ensures { Pushes W.held W.has_failed (AddsSome (IsDetail finding.now)) out.old out.new result }
+    ensures { Pushes W.held W.has_failed (AddsSome (IsDetail author.now finding.now)) out.old out.new result }
 {
     match finding {
         Finding::Settled(_, games) => write_list(" games: ", games, out),
-        Finding::NotSound(evidence) => write_evidence(evidence, out),
+        Finding::NotSound(evidence) => write_evidence(author, evidence, out),
         Finding::NotSettled(known) => write_known(known, out),
     }
 }
@@ -320,7 +340,7 @@ fn append_row<W: Sink>(
 {
     let length = entry.problem.length;
     write_head(entry.name, length, given_to(entry), ruling, old, out)?;
-    write_detail(&ruling.finding, out)?;
+    write_detail(&entry.games, &ruling.finding, out)?;
     out.push(b"\n")
 }
 
@@ -330,7 +350,8 @@ fn append_row<W: Sink>(
 /// not; by what it was found, as `search, 67036 nodes`, `journeys, 3033 nodes`, `drawn, 64 nodes`, `tariffs, 64 nodes`, `tolls, 64 nodes`,
 /// `cooks, 211 nodes`, `certificate, 67037 records` or `certificate, time is over`, and `, old certificate refused` or
 /// `, certificate of another problem kept`; and last the game, of more than one their number and the first two, the
-/// other game, the shorter one, or what is known where nothing is settled. Takes no memory.
+/// other game, the shorter one, or what is known where nothing is settled. Behind two games, and behind another game
+/// where the author's is given, stands where the two part, as `write_apart` tells it. Takes no memory.
 ///
 /// # Errors
 /// `Write` where the sink has failed.

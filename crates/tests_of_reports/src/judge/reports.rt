@@ -50,20 +50,26 @@ diagram rnbqkbnr/pppppppp/8/8/8/8/PPPPPPPP/RNBQKBNR|length 0.0|games 1|-|sound|
 search 1000 none rnbqkbnr/pppp1ppp/8/4p3/4P3/8/PPPP1PPP/RNBQKBNR 0.5 => \
 diagram rnbqkbnr/pppp1ppp/8/4p3/4P3/8/PPPP1PPP/RNBQKBNR|length 0.5|games 0|no game|
 search 1000 orders rnbqkbnr/pppp1ppp/4p3/8/8/3PP3/PPP2PPP/RNBQKBNR 1.5 => \
-diagram rnbqkbnr/pppp1ppp/4p3/8/8/3PP3/PPP2PPP/RNBQKBNR|length 1.5|games 2|1. d3 e6 2. e3|1. e3 e6 2. d3|cooked|
+diagram rnbqkbnr/pppp1ppp/4p3/8/8/3PP3/PPP2PPP/RNBQKBNR|length 1.5|games 2|1. d3 e6 2. e3|1. e3 e6 2. d3|\
+the first two part at move 1 of White, with the same moves in another order|cooked|
 second 1000 orders rnbqkbnr/pppp1ppp/4p3/8/8/3PP3/PPP2PPP/RNBQKBNR 1.5 => \
-diagram rnbqkbnr/pppp1ppp/4p3/8/8/3PP3/PPP2PPP/RNBQKBNR|length 1.5|games 2|1. d3 e6 2. e3|1. e3 e6 2. d3|not sound|
+diagram rnbqkbnr/pppp1ppp/4p3/8/8/3PP3/PPP2PPP/RNBQKBNR|length 1.5|games 2|1. d3 e6 2. e3|1. e3 e6 2. d3|\
+the first two part at move 1 of White, with the same moves in another order|not sound|
 all 1000 orders rnbqkbnr/pppp1ppp/4p3/8/8/3PP3/PPP2PPP/RNBQKBNR 1.5 => \
-diagram rnbqkbnr/pppp1ppp/4p3/8/8/3PP3/PPP2PPP/RNBQKBNR|length 1.5|games 2|1. d3 e6 2. e3|1. e3 e6 2. d3|cooked|
+diagram rnbqkbnr/pppp1ppp/4p3/8/8/3PP3/PPP2PPP/RNBQKBNR|length 1.5|games 2|1. d3 e6 2. e3|1. e3 e6 2. d3|\
+the first two part at move 1 of White, with the same moves in another order|cooked|
 search 220 four rnbqkbnr/1pp1pppp/p2P4/8/8/8/PPPP1PPP/RNBQKBNR 2.5 => \
 diagram rnbqkbnr/1pp1pppp/p2P4/8/8/8/PPPP1PPP/RNBQKBNR|length 2.5|games 4|1. e4 a6 2. e5 d5 3. exd6|1. e4 a6 2. e5 \
-d6 3. exd6|1. e4 d5 2. exd5 a6 3. d6|1. e4 d6 2. e5 a6 3. exd6|not sound|
+d6 3. exd6|1. e4 d5 2. exd5 a6 3. d6|1. e4 d6 2. e5 a6 3. exd6|\
+the first two part at move 2 of Black|not sound|
 all 220 four rnbqkbnr/1pp1pppp/p2P4/8/8/8/PPPP1PPP/RNBQKBNR 2.5 => \
 diagram rnbqkbnr/1pp1pppp/p2P4/8/8/8/PPPP1PPP/RNBQKBNR|length 2.5|games 4|1. e4 a6 2. e5 d5 3. exd6|1. e4 a6 2. e5 \
-d6 3. exd6|1. e4 d5 2. exd5 a6 3. d6|1. e4 d6 2. e5 a6 3. exd6|cooked|
+d6 3. exd6|1. e4 d5 2. exd5 a6 3. d6|1. e4 d6 2. e5 a6 3. exd6|\
+the first two part at move 2 of Black|cooked|
 second 1000 cook rnbqkbnr/pppp1ppp/4p3/8/8/3PP3/PPP2PPP/RNBQKBNR 1.5 1. e3 e6 2. d3 => \
 diagram rnbqkbnr/pppp1ppp/4p3/8/8/3PP3/PPP2PPP/RNBQKBNR|length 1.5|games 1|1. e3 e6 2. d3|another game|1. d3 e6 2. \
-e3|not sound|
+e3|\
+it parts from the first at move 1 of White, with the same moves in another order|not sound|
 second 1000 shorter rnbqkbnr/pppp1ppp/8/4p3/4P3/8/PPPP1PPP/RNBQKBNR 2.0 1. e3 e6 2. e4 e5 => \
 diagram rnbqkbnr/pppp1ppp/8/4p3/4P3/8/PPPP1PPP/RNBQKBNR|length 2.0|games 1|1. e3 e6 2. e4 e5|a game of 3 plies|1. \
 e3 e5 2. e4|not sound|

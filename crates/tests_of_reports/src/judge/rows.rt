@@ -29,10 +29,13 @@ const ROWS: &str = "array|0.0|sound|solves|search, 0 nodes|-
 schweig|4.0|sound|solves|search, 67036 nodes|1. Nc3 d6 2. Nd5 Nd7 3. Nxe7 Ndf6 4. Nxg8 Nxg8
 alone|4.0|sound|-|search, 67036 nodes|1. Nc3 d6 2. Nd5 Nd7 3. Nxe7 Ndf6 4. Nxg8 Nxg8
 elsewhere|4.0|sound|fails|search, 67036 nodes|1. Nc3 d6 2. Nd5 Nd7 3. Nxe7 Ndf6 4. Nxg8 Nxg8
-orders|1.5|cooked|-|search, 63 nodes|2 games: 1. d3 e6 2. e3; 1. e3 e6 2. d3
-four|2.5|cooked|-|search, 236 nodes|4 games: 1. e4 a6 2. e5 d5 3. exd6; 1. e4 a6 2. e5 d6 3. exd6
+orders|1.5|cooked|-|search, 63 nodes|2 games: 1. d3 e6 2. e3; 1. e3 e6 2. d3; they part \
+at move 1 of White, with the same moves in another order
+four|2.5|cooked|-|search, 236 nodes|4 games: 1. e4 a6 2. e5 d5 3. exd6; 1. e4 a6 2. e5 d6 3. exd6; they part at \
+move 2 of Black
 none|0.5|no game|-|search, 0 nodes|-
-cook|1.5|not sound|solves|cooks, 23 nodes|another game: 1. d3 e6 2. e3
+cook|1.5|not sound|solves|cooks, 23 nodes|another game: 1. d3 e6 2. e3; they part at move 1 of White, with the same \
+moves in another order
 shorter|2.0|not sound|solves|cooks, 36 nodes|a game of 3 plies: 1. e3 e5 2. e4
 short-by-search|2.0|not sound|-|search, 0 nodes|a game of 2 plies: 1. e4 e5
 ";
@@ -50,7 +53,8 @@ four rnbqkbnr/1pp1pppp/p2P4/8/8/8/PPPP1PPP/RNBQKBNR 2.5";
 
 const FEW: &str =
     "schweig|4.0|not settled|solves|journeys, 99 nodes|1 game met; none below 3.5; no cook with at most 0 foreign moves; limit reached
-four|2.5|not sound|-|search, 74 nodes|2 games met: 1. e4 a6 2. e5 d5 3. exd6; 1. e4 a6 2. e5 d6 3. exd6
+four|2.5|not sound|-|search, 74 nodes|2 games met: 1. e4 a6 2. e5 d5 3. exd6; 1. e4 a6 2. e5 d6 3. exd6; they part at \
+move 2 of Black
 ";
 
 #[test]

@@ -39,7 +39,8 @@ fn standing_certificates(rt: HostRuntime) {
         &rt,
         ORDERS,
         bytes.as_slice(),
-        "orders|1.5|cooked|-|certificate, 63 records|2 games: 1. d3 e6 2. e3; 1. e3 e6 2. d3\n",
+        "orders|1.5|cooked|-|certificate, 63 records|2 games: 1. d3 e6 2. e3; 1. e3 e6 2. d3; they part at move 1 of \
+        White, with the same moves in another order\n",
     );
     check_standing(
         &rt,

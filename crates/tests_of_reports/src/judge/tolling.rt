@@ -165,11 +165,11 @@ fn a_certificate_stands_behind_its_lead(rt: HostRuntime) {
 // one; and a shorter game is met again.
 const FEW: &str =
     "100 1000 four rnbqkbnr/1pp1pppp/p2P4/8/8/8/PPPP1PPP/RNBQKBNR 2.5 => four|2.5|not sound|-|tariffs, 74 nodes|\
-2 games met: 1. e4 a6 2. e5 d5 3. exd6; 1. e4 a6 2. e5 d6 3. exd6
+2 games met: 1. e4 a6 2. e5 d5 3. exd6; 1. e4 a6 2. e5 d6 3. exd6; they part at move 2 of Black
 1000 20 four rnbqkbnr/1pp1pppp/p2P4/8/8/8/PPPP1PPP/RNBQKBNR 2.5 => four|2.5|not sound|-|tolls, 19 nodes|\
-4 games met: 1. e4 a6 2. e5 d5 3. exd6; 1. e4 a6 2. e5 d6 3. exd6
+4 games met: 1. e4 a6 2. e5 d5 3. exd6; 1. e4 a6 2. e5 d6 3. exd6; they part at move 2 of Black
 1000 1000 four rnbqkbnr/1pp1pppp/p2P4/8/8/8/PPPP1PPP/RNBQKBNR 2.5 => four|2.5|cooked|-|tolls, 209 nodes|\
-4 games: 1. e4 a6 2. e5 d5 3. exd6; 1. e4 a6 2. e5 d6 3. exd6
+4 games: 1. e4 a6 2. e5 d5 3. exd6; 1. e4 a6 2. e5 d6 3. exd6; they part at move 2 of Black
 50 1000 four rnbqkbnr/1pp1pppp/p2P4/8/8/8/PPPP1PPP/RNBQKBNR 2.5 1. e4 a6 2. e5 d5 3. exd6 => four|2.5|not settled|\
 solves|tariffs, 21 nodes|1 game met; none below 2.5; no cook with at most 0 foreign moves; limit reached
 1000 1000 short rnbqkbnr/pppp1ppp/8/4p3/4P3/8/PPPP1PPP/RNBQKBNR 2.0 => short|2.0|not sound|-|tariffs, 0 nodes|\

@@ -6,13 +6,16 @@ use pg_trial::Counted;
 // Another order of moves; a capture in passing where the list has none; a game of Black's kind.
 const COOKS: &str = "cooks | two-orders | 1.5 | 1. e3 e6 2. d3 => Cook => \
     diagram rnbqkbnr/pppp1ppp/4p3/8/8/3PP3/PPP2PPP/RNBQKBNR$length 1.5$games 1$1. e3 e6 2. d3$another game$\
-    1. d3 e6 2. e3$not sound$
+    1. d3 e6 2. e3$\
+    it parts from the first at move 1 of White, with the same moves in another order$not sound$
 cooks | fools-mate | 2.0 | 1. f3 e5 2. g4 Qh4# => Cook => \
     diagram rnb1kbnr/pppp1ppp/8/4p3/6Pq/5P2/PPPPP2P/RNBQKBNR$length 2.0$games 1$1. f3 e5 2. g4 Qh4#$another game$\
-    1. g4 e5 2. f3 Qh4#$not sound$
+    1. g4 e5 2. f3 Qh4#$\
+    it parts from the first at move 1 of White, with the same moves in another order$not sound$
 cooks | en-passant | 2.5 | 1. e4 a6 2. e5 d6 3. exd6$1. e4 d5 2. exd5 a6 3. d6$1. e4 d6 2. e5 a6 3. exd6 => Cook => \
     diagram rnbqkbnr/1pp1pppp/p2P4/8/8/8/PPPP1PPP/RNBQKBNR$length 2.5$games 3$1. e4 a6 2. e5 d6 3. exd6$\
-    1. e4 d5 2. exd5 a6 3. d6$1. e4 d6 2. e5 a6 3. exd6$another game$1. e4 a6 2. e5 d5 3. exd6$not sound$";
+    1. e4 d5 2. exd5 a6 3. d6$1. e4 d6 2. e5 a6 3. exd6$another game$1. e4 a6 2. e5 d5 3. exd6$\
+    it parts from the first at move 2 of Black$not sound$";
 
 #[test]
 fn other_games(rt: HostRuntime) {
@@ -25,54 +28,63 @@ fn other_games(rt: HostRuntime) {
 const OF_EVERY_KIND: &str =
     "cooks | rnbqkbnr/p1ppp1pp/5p2/1B6/8/4P2N/PPPP1PPP/RNBQ1RK1 | 3.5 | 1. Nh3 b6 2. e3 b5 3. Bxb5 f6 4. O-O => \
     Cook => diagram rnbqkbnr/p1ppp1pp/5p2/1B6/8/4P2N/PPPP1PPP/RNBQ1RK1$length 3.5$games 1$\
-    1. Nh3 b6 2. e3 b5 3. Bxb5 f6 4. O-O$another game$1. e3 b6 2. Nh3 b5 3. Bxb5 f6 4. O-O$not sound$
+    1. Nh3 b6 2. e3 b5 3. Bxb5 f6 4. O-O$another game$1. e3 b6 2. Nh3 b5 3. Bxb5 f6 4. O-O$\
+    it parts from the first at move 1 of White, with the same moves in another order$not sound$
 cooks | rnbq1rk1/pppppp1p/5np1/8/5B1P/3P4/PPP1PPP1/RN1QKBNR | 4.0 | 1. d3 g6 2. h4 Bh6 3. Bxh6 Nf6 4. Bf4 O-O => \
     Cook => diagram rnbq1rk1/pppppp1p/5np1/8/5B1P/3P4/PPP1PPP1/RN1QKBNR$length 4.0$games 1$\
-    1. d3 g6 2. h4 Bh6 3. Bxh6 Nf6 4. Bf4 O-O$another game$1. h4 g6 2. d3 Bh6 3. Bxh6 Nf6 4. Bf4 O-O$not sound$
+    1. d3 g6 2. h4 Bh6 3. Bxh6 Nf6 4. Bf4 O-O$another game$1. h4 g6 2. d3 Bh6 3. Bxh6 Nf6 4. Bf4 O-O$\
+    it parts from the first at move 1 of White, with the same moves in another order$not sound$
 cooks | rnb1kbnr/pp2pppp/8/2pp4/8/N2P4/PPPQPPPP/2KR1BNR | 4.5 | \
     1. d3 c5 2. Na3 Qa5+ 3. Bd2 Qxd2+ 4. Qxd2 d5 5. O-O-O$1. d3 c5 2. Bd2 Qa5 3. Na3 Qxd2+ 4. Qxd2 d5 5. O-O-O => \
     Cook => diagram rnb1kbnr/pp2pppp/8/2pp4/8/N2P4/PPPQPPPP/2KR1BNR$length 4.5$games 2$\
     1. d3 c5 2. Na3 Qa5+ 3. Bd2 Qxd2+ 4. Qxd2 d5 5. O-O-O$1. d3 c5 2. Bd2 Qa5 3. Na3 Qxd2+ 4. Qxd2 d5 5. O-O-O$\
-    another game$1. Na3 c5 2. d3 Qa5+ 3. Bd2 Qxd2+ 4. Qxd2 d5 5. O-O-O$not sound$
+    another game$1. Na3 c5 2. d3 Qa5+ 3. Bd2 Qxd2+ 4. Qxd2 d5 5. O-O-O$\
+    it parts from the first at move 1 of White, with the same moves in another order$not sound$
 cooks | 2kr1bnr/pppqpppp/n2p4/8/2P5/8/PPKPPPPP/RNB2BNR | 5.0 | \
     1. c4 d6 2. Qa4+ Bd7 3. Kd1 Na6 4. Qxd7+ Qxd7 5. Kc2 O-O-O => Cook => \
     diagram 2kr1bnr/pppqpppp/n2p4/8/2P5/8/PPKPPPPP/RNB2BNR$length 5.0$games 1$\
     1. c4 d6 2. Qa4+ Bd7 3. Kd1 Na6 4. Qxd7+ Qxd7 5. Kc2 O-O-O$another game$\
-    1. c4 d6 2. Qa4+ Bd7 3. Qxd7+ Qxd7 4. Kd1 Na6 5. Kc2 O-O-O$not sound$
+    1. c4 d6 2. Qa4+ Bd7 3. Qxd7+ Qxd7 4. Kd1 Na6 5. Kc2 O-O-O$\
+    it parts from the first at move 3 of White, with the same moves in another order$not sound$
 cooks | rn1q1bnQ/pp1kpp1p/3p4/2p5/6b1/8/PPPPPPP1/RNBQKBNR | 4.5 | \
     1. h4 c5 2. h5 d6 3. h6 Bg4 4. hxg7 Kd7 5. gxh8=Q$1. h4 d6 2. h5 c5 3. h6 Bg4 4. hxg7 Kd7 5. gxh8=Q$\
     1. h4 d6 2. h5 Bg4 3. h6 c5 4. hxg7 Kd7 5. gxh8=Q => Cook => \
     diagram rn1q1bnQ/pp1kpp1p/3p4/2p5/6b1/8/PPPPPPP1/RNBQKBNR$length 4.5$games 3$\
     1. h4 c5 2. h5 d6 3. h6 Bg4 4. hxg7 Kd7 5. gxh8=Q$1. h4 d6 2. h5 c5 3. h6 Bg4 4. hxg7 Kd7 5. gxh8=Q$\
     1. h4 d6 2. h5 Bg4 3. h6 c5 4. hxg7 Kd7 5. gxh8=Q$another game$1. h4 d6 2. h5 Bg4 3. h6 Kd7 4. hxg7 c5 5. gxh8=Q$\
-    not sound$
+    it parts from the first at move 1 of Black, with the same moves in another order$not sound$
 cooks | rn1qkbnN/p1p1pp1p/3p4/1p6/8/8/PPbPP1PP/RNBQKBNR | 4.5 | 1. f4 d6 2. f5 b5 3. f6 Bf5 4. fxg7 Bxc2 5. gxh8=N => \
     Cook => diagram rn1qkbnN/p1p1pp1p/3p4/1p6/8/8/PPbPP1PP/RNBQKBNR$length 4.5$games 1$\
     1. f4 d6 2. f5 b5 3. f6 Bf5 4. fxg7 Bxc2 5. gxh8=N$another game$\
-    1. f4 b5 2. f5 d6 3. f6 Bf5 4. fxg7 Bxc2 5. gxh8=N$not sound$
+    1. f4 b5 2. f5 d6 3. f6 Bf5 4. fxg7 Bxc2 5. gxh8=N$\
+    it parts from the first at move 1 of Black, with the same moves in another order$not sound$
 cooks | rnbqkbnr/ppppppp1/5P2/8/P7/7P/1PPPP3/RNBQKBNq | 5.0 | \
     1. f4 h5 2. a4 h4 3. f5 h3 4. f6 hxg2 5. h3 gxh1=Q$1. f4 h5 2. f5 h4 3. a4 h3 4. f6 hxg2 5. h3 gxh1=Q$\
     1. f4 h5 2. f5 h4 3. f6 h3 4. a4 hxg2 5. h3 gxh1=Q => Cook => \
     diagram rnbqkbnr/ppppppp1/5P2/8/P7/7P/1PPPP3/RNBQKBNq$length 5.0$games 3$\
     1. f4 h5 2. a4 h4 3. f5 h3 4. f6 hxg2 5. h3 gxh1=Q$1. f4 h5 2. f5 h4 3. a4 h3 4. f6 hxg2 5. h3 gxh1=Q$\
     1. f4 h5 2. f5 h4 3. f6 h3 4. a4 hxg2 5. h3 gxh1=Q$another game$\
-    1. a4 h5 2. f4 h4 3. f5 h3 4. f6 hxg2 5. h3 gxh1=Q$not sound$
+    1. a4 h5 2. f4 h4 3. f5 h3 4. f6 hxg2 5. h3 gxh1=Q$\
+    it parts from the first at move 1 of White, with the same moves in another order$not sound$
 cooks | rnbqkbnr/ppppppp1/8/3P4/8/1N6/PPPQPP1P/R1B1KnNR | 5.0 | \
     1. d4 h5 2. Nd2 h4 3. Nb3 h3 4. Qd2 hxg2 5. d5 gxf1=N$1. d4 h5 2. Nd2 h4 3. Nb3 h3 4. d5 hxg2 5. Qd2 gxf1=N$\
     1. d4 h5 2. Nd2 h4 3. d5 h3 4. Nb3 hxg2 5. Qd2 gxf1=N => Cook => \
     diagram rnbqkbnr/ppppppp1/8/3P4/8/1N6/PPPQPP1P/R1B1KnNR$length 5.0$games 3$\
     1. d4 h5 2. Nd2 h4 3. Nb3 h3 4. Qd2 hxg2 5. d5 gxf1=N$1. d4 h5 2. Nd2 h4 3. Nb3 h3 4. d5 hxg2 5. Qd2 gxf1=N$\
     1. d4 h5 2. Nd2 h4 3. d5 h3 4. Nb3 hxg2 5. Qd2 gxf1=N$another game$\
-    1. d4 h5 2. d5 h4 3. Nd2 h3 4. Nb3 hxg2 5. Qd2 gxf1=N$not sound$
+    1. d4 h5 2. d5 h4 3. Nd2 h3 4. Nb3 hxg2 5. Qd2 gxf1=N$\
+    it parts from the first at move 2 of White, with the same moves in another order$not sound$
 cooks | rnbqkbnr/1ppP2pp/8/p7/8/8/PPPP1PPP/RNBQKBNR | 3.5 | 1. e4 f5 2. exf5 e6 3. fxe6 a5 4. exd7+ => Cook => \
     diagram rnbqkbnr/1ppP2pp/8/p7/8/8/PPPP1PPP/RNBQKBNR$length 3.5$games 1$1. e4 f5 2. exf5 e6 3. fxe6 a5 4. exd7+$\
-    another game$1. e4 f5 2. exf5 e5 3. fxe6 a5 4. exd7+$not sound$
+    another game$1. e4 f5 2. exf5 e5 3. fxe6 a5 4. exd7+$\
+    it parts from the first at move 2 of Black$not sound$
 cooks | rnbqkbnr/ppppp1pp/8/8/8/3P4/PP2QPPP/RNB1KBNR | 3.5 | \
     1. d3 f5 2. e4 fxe4 3. Qe2 exd3 4. cxd3$1. e4 f5 2. Qe2 fxe4 3. d3 exd3 4. cxd3$\
     1. e4 f5 2. d3 fxe4 3. Qe2 exd3 4. cxd3 => Cook => \
     diagram rnbqkbnr/ppppp1pp/8/8/8/3P4/PP2QPPP/RNB1KBNR$length 3.5$games 3$1. d3 f5 2. e4 fxe4 3. Qe2 exd3 4. cxd3$\
     1. e4 f5 2. Qe2 fxe4 3. d3 exd3 4. cxd3$1. e4 f5 2. d3 fxe4 3. Qe2 exd3 4. cxd3$another game$\
-    1. e4 f5 2. Qe2 fxe4 3. d4 exd3 4. cxd3$not sound$";
+    1. e4 f5 2. Qe2 fxe4 3. d4 exd3 4. cxd3$\
+    it parts from the first at move 1 of White$not sound$";
 
 #[test]
 fn other_games_of_every_kind(rt: HostRuntime) {
@@ -148,8 +160,9 @@ fn writes_of_cooks_that_fail(rt: HostRuntime) {
         &rt,
         "cooks | two-orders | 1.5 | 1. e3 e6 2. d3 => Cook => \
             diagram rnbqkbnr/pppp1ppp/4p3/8/8/3PP3/PPP2PPP/RNBQKBNR$length 1.5$games 1$1. e3 e6 2. d3$another game$\
-            1. d3 e6 2. e3$not sound$",
-        33,
+            1. d3 e6 2. e3$\
+            it parts from the first at move 1 of White, with the same moves in another order$not sound$",
+        39,
     );
 }
 

@@ -1,18 +1,16 @@
 use Rattle.std.proofs.Common.{rules}
-use Rattle.std.specs.Prelude.{codes}
 use Rattle.std.specs.Io.KnownBytes.{Appends}
 use Rattle.pg_certificate.specs.Pushing.{AddsSome}
-use Rattle.pg_texts.specs.Report.{line_text}
 use Rattle.pg_texts.proofs.OutcomeLemmas.{on_ok}
-use Rattle.pg_cooks.specs.Cooks.{IsEndText}
+use Rattle.pg_cooks.specs.Cooks.{IsEndText, unsound_text}
 use Rattle.pg_cooks.proofs.TextLemmas.{end_grows}
 use Rattle.pg_cooks.proofs.writing.write_found.Goals as goal
 
 pub returns : goal.returns
 returns g c = record {
   text =
-      on_ok c.write_line.result (Appends (g.W.Sink.held c.write_game.new.out) (g.W.Sink.held c.write_line.new.out) (line_text (codes "not sound"))) (AddsSome (IsEndText c.args.game.now) (g.W.Sink.held c.args.out.now) (g.W.Sink.held c.write_line.new.out))
-      (end_grows c.args.game.now (g.W.Sink.held c.args.out.now) (g.W.Sink.held c.write_game.new.out) (g.W.Sink.held c.write_line.new.out) c.in_ok-write_game.ensures.text)
+      on_ok c.write_line.result (Appends (g.W.Sink.held c.write_game.new.out) (g.W.Sink.held c.write_line.new.out) unsound_text) (AddsSome (IsEndText unsound_text c.args.game.now) (g.W.Sink.held c.args.out.now) (g.W.Sink.held c.write_line.new.out))
+      (end_grows unsound_text c.args.game.now (g.W.Sink.held c.args.out.now) (g.W.Sink.held c.write_game.new.out) (g.W.Sink.held c.write_line.new.out) c.in_ok-write_game.ensures.text)
       c.write_line.ensures.text;
   runs = search rules;
   fault = search rules;

@@ -14,5 +14,5 @@ returns-in-Another g c =
     let n = entry.problem.length in
     let out = c.write_another.new.out in
     subst (λ (e : Evidence). Pushes g.W.Sink.held g.W.Sink.has_failed (AddsSome (IsTextOf entry (NotSound e))) c.args.out.now out c.write_another.result) (sym c.in-Another.is)
-    (subst (λ (game : List Move). Pushes g.W.Sink.held g.W.Sink.has_failed (AddsSome (IsBeside d n entry.games (IsCookText game))) c.args.out.now out c.write_another.result)
+    (subst (λ (game : List Move). Pushes g.W.Sink.held g.W.Sink.has_failed (AddsSome (IsBeside d n entry.games (IsCookText entry.games game))) c.args.out.now out c.write_another.result)
     c.as_slice.ensures.value c.write_another.ensures)
