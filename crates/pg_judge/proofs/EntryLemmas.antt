@@ -20,6 +20,10 @@ pub stops : (text : List ℕ) (games : List (List Move)) (fault : GamesFault) (l
     → fault ≡ At line ply cause → IsTextFault text fault → IsAuthor text games (Some (record { ply = ply; cause = cause }))
 stops text games fault line ply cause none is h = (none, (line, subst (λ (x : GamesFault). IsTextFault text x) is h))
 
+-- it is refused otherwise
+pub refused : (text : List ℕ) (fault said : GamesFault) → fault ≡ said → IsTextFault text fault → IsTextFault text said
+refused text fault said is h = subst (λ (x : GamesFault). IsTextFault text x) is h
+
 -- a text with one word has fewer than two
 pub one_word : (text word rest : List ℕ) → words text ≡ word ∷ words rest → words rest ≡ [] → length (words text) < 2
 one_word text word rest e none =

@@ -68,14 +68,15 @@ IsProblemFault diagram length (Diagram fault) = diagram_of (fields diagram) ≡ 
 IsProblemFault diagram length (Length fault) = length_of length ≡ Err fault
 IsProblemFault diagram length fault = ⊥
 
--- why a text is no games: it is not UTF-8, or is refused
+-- why a text is neither games nor a word by which it is none: it is not UTF-8, or is refused otherwise
 abbrev pub IsGamesFault : List ℕ → EntryFault → Type 0
 IsGamesFault text NotUtf8 = ¬ IsUtf8 text
+IsGamesFault text (Games (At line ply cause)) = ⊥
 IsGamesFault text (Games fault) = IsTextFault text fault
 IsGamesFault text fault = ⊥
 
 -- why a line that has words and is no comment spells no problem: its first word is no name; or it is, and the line has
--- fewer than three words; or it has three, and the second and the third are no problem, or what stands behind no games
+-- fewer than three words; or it has three, and the second and the third are no problem, or what stands behind is refused
 abbrev pub IsEntryFault : List ℕ → EntryFault → Type 0
 IsEntryFault line Name = (name : List ℕ) × (rest : List ℕ) × Begins line name rest × (IsUtf8 name → ¬ IsName name)
 IsEntryFault line Short = (name : List ℕ) × (rest : List ℕ) × Begins line name rest × IsName name × (length (words line) < 3)

@@ -63,12 +63,14 @@ IsSoundLine line = IsSkipped line
     ⊎ ((entry : Entry) × IsEntry line entry × IsSound entry.problem.diagram entry.problem.length)
 
 -- ---- the author's game
--- What the author's games are: none is given; or each is a solution; or a word of this ply is no move; or the first that is
--- no solution has so many plies, and not as many as stated, or it has these and ends elsewhere.
+-- What the author's games are: none is given; or each is a solution; or a word of this ply is no move; or the first that
+-- is no solution has so many plies, and not as many as stated, or it has these and ends elsewhere.
 abbrev pub IsGiven : Entry → Given → Type 0
 IsGiven entry NoGame = (entry.bad ≡ None) × (entry.games ≡ [])
 IsGiven entry Solves = (entry.games ≢ []) × AreSolutions entry.problem.diagram entry.problem.length entry.games
 IsGiven entry (StopsAt ply) = (bad : BadMove) × (entry.bad ≡ Some bad) × (bad.ply ≡ ply)
-IsGiven entry (OfPlies plies) = (i : ℕ) × IsListFault entry.problem.diagram entry.problem.length entry.games (WrongLength i)
+IsGiven entry (OfPlies plies) = (i : ℕ)
+    × IsListFault entry.problem.diagram entry.problem.length entry.games (WrongLength i)
     × ((game : List Move) × (slice_get entry.games i ≡ Some game) × (length game ≡ plies))
-IsGiven entry EndsElsewhere = (i : ℕ) × IsListFault entry.problem.diagram entry.problem.length entry.games (NotReaching i)
+IsGiven entry EndsElsewhere = (i : ℕ)
+    × IsListFault entry.problem.diagram entry.problem.length entry.games (NotReaching i)

@@ -161,7 +161,9 @@ fn read_author(alloc: Global, text: &[u8]) -> Result<Author, EntryFault>
             games: Games::new(alloc),
             bad: Some(BadMove { ply, cause }),
         }),
-        Err(fault) => Err(EntryFault::Games(fault)),
+        Err(GamesFault::TooMany { line }) => Err(EntryFault::Games(GamesFault::TooMany { line })),
+        Err(GamesFault::Repeated { line }) => Err(EntryFault::Games(GamesFault::Repeated { line })),
+        Err(GamesFault::Memory) => Err(EntryFault::Games(GamesFault::Memory)),
     }
 }
 
