@@ -249,6 +249,7 @@ apart=' at move 1 of White, with the same moves in another order' # the two game
 parted="the first two part$apart"
 orders_row=$(row orders 1.5 cooked - 'search, 63 nodes' '2 games: 1. d3 e6 2. e3; 1. e3 e6 2. d3; they part'"$apart")
 array_row=$(row array 0.0 sound solves 'search, 0 nodes' -)
+fails_row() { row array 0.0 sound "fails, $1" 'search, 0 nodes' -; }
 while IFS='|' read -r status list said printed; do
   printf -- "$list" >"$work/list"
   expect "$status" "${said:+pg: $said}" '"$pg" judge ../list' "$printed"
@@ -265,7 +266,9 @@ done <<END
 2|array 8/8 0\n|line 1: bad rank|
 2|array $array 0,5\n|line 1: bad length|
 2|array $array 0 \xff\n|line 1: not UTF-8|
-2|array $array 1 1. e4 e4\n|line 1: ply 2: no such legal move|
+3|array $array 0 1. e4 e4\n|line 1: the author's game: ply 2: no such legal move|$(fails_row 'ply 2')
+3|array $array 0 1. e4\n|line 1: the author's game: it does not have the stated length|$(fails_row '1 ply')
+3|# 1\narray $array 0 e4 e5 - - *\n.|line 2: the author's game: ply 3: not a move\npg: line 3: bad name|$(fails_row 'ply 3')
 2|array $array 0 -\narray $array 0 -\n|line 2: this name stands above|$array_row
 END
 printf 'orders %s 1.5\n' $orders >"$work/list"

@@ -12,11 +12,17 @@ use Rattle.pg_streams.specs.Buffer.{IsHandedOn, sink_of}
 use Rattle.pg_streams.specs.declared.gathered.Gathered.{Gathered}
 use Rattle.pg_files.specs.declared.faults.FileFault.{FileFault}
 use Rattle.pg_judge.specs.Entries.{IsEntry}
-use Rattle.pg_judge.specs.Ruling.{IsSoundLine}
+use Rattle.pg_judge.specs.Rows.{IsRowOf}
+use Rattle.pg_judge.specs.Ruling.{IsFindingOf, IsGiven, IsSaidSound, IsSoundLine}
 use Rattle.pg_judge.specs.declared.entry.Entry.{Entry}
+use Rattle.pg_judge.specs.declared.given.Given.{Given}
+use Rattle.pg_judge.specs.declared.given.Given.TheVariants.{NoGame, Solves, StopsAt, OfPlies, EndsElsewhere}
+use Rattle.pg_judge.specs.declared.old.Old.{Old}
+use Rattle.pg_judge.specs.declared.ruling.Finding.{Finding}
+use Rattle.pg_judge.specs.declared.ruling.Ruling.{Ruling}
 use Rattle.pg_judge.proofs.GameLemmas.{sound_means}
 use Rattle.pg_san.specs.GameText.{lines}
-use Rattle.pg_cli.specs.Judging.{AreJudged, EndsRun, IsBad, IsCutOff, IsJudged, IsRuled, IsSpoiled}
+use Rattle.pg_cli.specs.Judging.{AreJudged, EndsRun, IsBad, IsCutOff, IsFindingStatus, IsJudged, IsRowStatus, IsRuled, IsSpoiled}
 use Rattle.pg_cli.specs.declared.judging.Spoiled.{Spoiled}
 use Rattle.pg_cli.specs.declared.judging.Spoiled.TheVariants.{Run, Place}
 use Rattle.pg_cli.specs.declared.refusals.Refusal.{Refusal}
@@ -65,18 +71,34 @@ place_adds held line status fault spoiled old new e h is unless =
     let same = unless (λ run. absurd (let z : Place fault ≡ Run Write = sym is ∙ run in cc)) in
     subst (λ x. AddsSome (IsJudged line status) (held_by held old) (held_by held x)) (sym same) (bad_adds line status (held_by held old) e h)
 
+-- what is written is the row of what is found, which is true, and the status is that of the row
+pub ruled : (entry : Entry) (ruling : Ruling) (old : Old) (given : Given) (status : ℕ) (a b : Option (List ℕ)) → IsFindingOf entry ruling.finding
+    → IsGiven entry given → IsRowStatus given ruling.finding status → AddsSome (IsRowOf entry ruling old) a b → AddsSome (IsRuled entry status) a b
+ruled entry ruling old given status a b true_of by worth h = (h.0, (ruling, old, given, true_of, h.1, by, worth), h.2)
+
 pub ruled_adds : (line : List ℕ) (status : ℕ) (entry : Entry) (a b : Option (List ℕ)) → IsEntry line entry → AddsSome (IsRuled entry status) a b
     → AddsSome (IsJudged line status) a b
 ruled_adds line status entry a b is h = (h.0, inr (inr (entry, is, h.1)), h.2)
 
 -- ---- a list
+-- a row with the status 0 is of what is found with it
+zero_found : (given : Given) (finding : Finding) → IsRowStatus given finding 0 → IsFindingStatus finding 0
+zero_found NoGame finding h = h
+zero_found Solves finding h = h
+zero_found (StopsAt ply) finding h = absurd (let z : 0 ≡ 3 = h in cc)
+zero_found (OfPlies plies) finding h = absurd (let z : 0 ≡ 3 = h in cc)
+zero_found EndsElsewhere finding h = absurd (let z : 0 ≡ 3 = h in cc)
+
+said_sound : (finding : Finding) → IsFindingStatus finding 0 → IsSaidSound finding
+said_sound finding (inl said) = said.1
+said_sound finding (inr other) = absurd (let z : 0 ≡ 1 = other.0 in cc)
+
 -- of what is said to be sound a list of one game is the exact answer
 sound_line : (line : List ℕ) (text : List ℕ) → IsJudged line 0 text → IsSoundLine line
 sound_line line text (inl h) = inl h.0
 sound_line line text (inr (inl h)) = absurd (let z : 0 ≡ 2 = h.1 in cc)
-sound_line line text (inr (inr (entry, is, (ruling, old, true_of, row, inl said)))) =
-    inr (entry, is, sound_means entry.problem.diagram entry.problem.length entry.games ruling.finding true_of said.1)
-sound_line line text (inr (inr (entry, is, (ruling, old, true_of, row, inr other)))) = absurd (let z : 0 ≡ 1 = other.0 in cc)
+sound_line line text (inr (inr (entry, is, (ruling, old, given, true_of, row, by, worth)))) =
+    inr (entry, is, sound_means entry.problem.diagram entry.problem.length entry.games ruling.finding true_of (said_sound ruling.finding (zero_found given ruling.finding worth)))
 
 none_above : (one others : ℕ) → 0 ≡ max one others → (one ≡ 0) × (others ≡ 0)
 none_above one others e =

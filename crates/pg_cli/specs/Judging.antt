@@ -6,9 +6,11 @@ use Rattle.pg_certificate.specs.Pushing.{AddsSome}
 use Rattle.pg_san.specs.GameText.{lines}
 use Rattle.pg_judge.specs.Entries.{IsEntry, IsEntryFault, IsSkipped}
 use Rattle.pg_judge.specs.Rows.{IsRowOf}
-use Rattle.pg_judge.specs.Ruling.{IsFindingOf, IsSaidSound}
+use Rattle.pg_judge.specs.Ruling.{IsFindingOf, IsGiven, IsSaidSound}
 use Rattle.pg_judge.specs.declared.entry.Entry.{Entry}
 use Rattle.pg_judge.specs.declared.entry_fault.EntryFault.{EntryFault}
+use Rattle.pg_judge.specs.declared.given.Given.{Given}
+use Rattle.pg_judge.specs.declared.given.Given.TheVariants.{NoGame, Solves}
 use Rattle.pg_judge.specs.declared.old.Old.{Old}
 use Rattle.pg_judge.specs.declared.ruling.Finding.{Finding}
 use Rattle.pg_judge.specs.declared.ruling.Ruling.{Ruling}
@@ -29,10 +31,17 @@ IsStanding entry (Shown old) = Unit {0}
 abbrev pub IsFindingStatus : Finding → ℕ → Type 0
 IsFindingStatus finding status = ((status ≡ 0) × IsSaidSound finding) ⊎ ((status ≡ 1) × ¬ IsSaidSound finding)
 
--- the text is the row of an entry, of what is found of its problem, which is true, and this is the status of that
+-- the status of a row: 3 where the author's game fails, else that of what is found
+abbrev pub IsRowStatus : Given → Finding → ℕ → Type 0
+IsRowStatus NoGame finding status = IsFindingStatus finding status
+IsRowStatus Solves finding status = IsFindingStatus finding status
+IsRowStatus given finding status = status ≡ 3
+
+-- the text is the row of an entry, of what is found of its problem, which is true, and this is the status of that and of
+-- what the author's game is
 abbrev pub IsRuled : Entry → ℕ → List ℕ → Type 0
-IsRuled entry status text = (ruling : Ruling) × (old : Old) × IsFindingOf entry ruling.finding
-    × IsRowOf entry ruling old text × IsFindingStatus ruling.finding status
+IsRuled entry status text = (ruling : Ruling) × (old : Old) × (given : Given) × IsFindingOf entry ruling.finding
+    × IsRowOf entry ruling old text × IsGiven entry given × IsRowStatus given ruling.finding status
 
 -- ---- a line
 -- the line spells no problem, which is its fault; or it spells one, and that is passed over, as where its name stands
@@ -41,7 +50,7 @@ abbrev pub IsBad : List ℕ → Type 0
 IsBad line = ((fault : EntryFault) × IsEntryFault line fault) ⊎ ((entry : Entry) × IsEntry line entry)
 
 -- what judging a line writes, and its status: nothing and 0 where it is blank or a comment; nothing and 2 where it is
--- bad; else the row of its problem, and the status of what is found
+-- bad; else the row of its problem, and its status
 abbrev pub IsJudged : List ℕ → ℕ → List ℕ → Type 0
 IsJudged line status text = (IsSkipped line × (status ≡ 0) × (text ≡ []))
     ⊎ ((IsBad line × (status ≡ 2) × (text ≡ []))

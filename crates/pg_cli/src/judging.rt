@@ -9,13 +9,14 @@ ghost use Rattle.pg_san.specs.GameText.{lines};
 ghost use Rattle.pg_streams.specs.Buffer.{IsHandedOn};
 ghost use Rattle.pg_cli.specs.Answers.{IsGivenBy};
 ghost use Rattle.pg_cli.specs.Judging.{AreJudged, EndsRun, IsCutOff, IsFindingStatus, IsJudged, IsListJudged};
-ghost use Rattle.pg_cli.specs.Judging.{IsRuled, IsSpoiled, IsStanding};
+ghost use Rattle.pg_cli.specs.Judging.{IsRowStatus, IsRuled, IsSpoiled, IsStanding};
 ghost use Rattle.pg_cli.specs.Runs.{IsOfFile};
 ghost use Rattle.pg_cli.specs.Words.{spelled};
 
 use crate::bounds::{journeys_to, tolls_to, travel_to};
 use crate::keeping::{Loose, OnDisk};
 use crate::limits::{Reach, reach_of};
+use crate::problems::{AtPlace, count_problems, say_bad, say_given};
 use crate::refusals::{Named, Refusal};
 use crate::screen::Screen;
 use crate::spelling::{say_replace, text_of};
@@ -24,13 +25,12 @@ use pg_captures::{Bound, Captures, Promotions};
 use pg_certificate::{Refused, Sink, ToWrite};
 use pg_checker::AnswerFault;
 use pg_files::{
-    Draft, FileFault, FileName, begin, begin_here, is_missing, list, make_folder, open_plain,
-    size_of,
+    Draft, FileFault, begin, begin_here, is_missing, list, make_folder, open_plain, size_of,
 };
 use pg_judge::{
-    Effort, Enough, Entry, EntryFault, Finding, JudgeProgress, Limits, Old, Prepared, Ruling,
-    Scratch, Unsettled, is_sound, judge as judge_problem, judge_by_tolls, prepare_tolls,
-    read_entry, recheck, time_is_over, unsettled_of, write_row,
+    Effort, Enough, Entry, EntryFault, Finding, Given, JudgeProgress, Limits, Old, Prepared,
+    Ruling, Scratch, Unsettled, given_to, is_sound, judge as judge_problem, judge_by_tolls,
+    prepare_tolls, read_entry, recheck, time_is_over, unsettled_of, write_row,
 };
 use pg_pawns::PawnFiles;
 use pg_san::{GamesFault, next_line};
@@ -39,20 +39,19 @@ use pg_streams::{Cleared, Deadline, Gathered, JudgeLine, Passing, Terminal, Unti
 use pg_tariff_files::{CarriedFault, number_of, read_carried, stating_all, write_carried};
 use std::alloc::{AllocError, AllocFailed, Global};
 use std::collections::BTreeSet;
-use std::fmt::{Display, Formatter};
+use std::io;
 use std::io::{Cursor, Eprint, Read};
 use std::rt::Runtime;
 use std::time::Clock;
-use std::{fmt, io};
 
 // The most nodes of one search for the games of a problem, where the words do not say it.
 pub(crate) const NODES: u64 = 100_000_000;
 
-// A line of a list of problems is bad.
-const BAD: u8 = 2;
-
 // A problem is not sound, or not settled.
 const OTHER: u8 = 1;
+
+// The author's game does not solve its problem.
+const FAILS: u8 = 3;
 
 // Where the certificate of a problem is kept.
 #[derive(Clone, Copy)]
@@ -195,25 +194,6 @@ impl From<FileFault> for Spoiled {
         match fault {
             FileFault::Memory => Spoiled::Run(Refusal::Memory),
             fault => Spoiled::Place(fault),
-        }
-    }
-}
-
-// The file of a problem's certificate, as it is told, and what is the matter with it.
-#[derive(Drop)]
-struct AtPlace<'a> {
-    folder: &'a str,
-    name: &'a str,
-    fault: FileFault,
-}
-
-impl Display for AtPlace<'_> {
-    fn fmt<W: fmt::Write>(&self, f: &mut Formatter<W>) -> fmt::Result {
-        let (folder, name) = (FileName(self.folder), self.name);
-        match self.fault {
-            FileFault::Open(obstacle) => write!(f, "cannot open {folder}/{name}.pgc: {obstacle}"),
-            FileFault::Read => write!(f, "cannot read {folder}/{name}.pgc"),
-            FileFault::Write | FileFault::Memory => write!(f, "cannot write {folder}/{name}.pgc"),
         }
     }
 }
@@ -580,6 +560,19 @@ pub(crate) fn status_of(ruling: &Ruling) -> u8
     OTHER
 }
 
+// The status of a row: 3 where the author's game fails, else that of the ruling.
+fn row_status(given: Given, ruling: &Ruling) -> u8
+    ensures { IsRowStatus given ruling.now.finding result }
+{
+    match given {
+        Given::NoGame => status_of(ruling),
+        Given::Solves => status_of(ruling),
+        Given::StopsAt(_) => FAILS,
+        Given::OfPlies(_) => FAILS,
+        Given::EndsElsewhere => FAILS,
+    }
+}
+
 // Which of how many problems.
 #[derive(Clone, Copy)]
 pub(crate) struct Turn {
@@ -587,7 +580,8 @@ pub(crate) struct Turn {
     pub(crate) count: usize,
 }
 
-// Judges a problem, writes its row and hands it on: 0 where it is sound, else 1. A refusal leaves no row in the sink.
+// Judges a problem, writes its row and hands it on: 3 where the author's game fails, else 0 where the problem is sound,
+// else 1. A refusal leaves no row in the sink.
 #[inline(never)]
 fn judge_and_tell<R: Runtime + AllocGlobal, W: Sink>(
     rt: &R,
@@ -615,7 +609,7 @@ fn judge_and_tell<R: Runtime + AllocGlobal, W: Sink>(
         Err(_) => return Err(Spoiled::Run(Refusal::Write)),
     }
     match out.flush() {
-        Ok(()) => Ok(status_of(&judged.ruling)),
+        Ok(()) => Ok(row_status(given_to(entry), &judged.ruling)),
         Err(Refused) => Err(Spoiled::Run(Refusal::Write)),
     }
 }
@@ -626,14 +620,6 @@ fn folder_of(place: Place<'_>) -> &str {
         Place::Folder(folder) => folder,
         Place::Nowhere | Place::File(_) => "",
     }
-}
-
-// Says on standard error what is wrong with a line, and gives the status.
-fn say_bad<R: Eprint, D: Display + Drop>(rt: &R, number: usize, what: D) -> u8
-    ensures { result ≡ 2 }
-{
-    let _ = eprintln!(rt; "pg: line {number}: {what}");
-    BAD
 }
 
 // Judges the problem of a line, if it spells one, and writes its row and hands it on; the status of the line.
@@ -663,6 +649,7 @@ fn judge_line<'t, R: Runtime + AllocGlobal, W: Sink>(
         Ok(false) => return Ok(say_bad(rt, seen.lines, "this name stands above")),
         Err(_) => return Err(Refusal::Memory),
     }
+    say_given(rt, seen.lines, &entry);
     seen.turn.number = seen.turn.number.saturating_add(1);
     match judge_and_tell(rt, &entry, orders, seen.turn, terminal, out) {
         Ok(status) => Ok(status),
@@ -686,20 +673,7 @@ struct Seen<'t> {
     turn: Turn,
 }
 
-// About how many lines of a text are problems: those that begin with anything but `#`.
-fn count_problems(text: &[u8]) -> usize {
-    let mut count = 0usize;
-    let mut is_first = true;
-    for byte in text {
-        if is_first && !matches!(*byte, b'#' | b'\n' | b'\r') {
-            count = count.saturating_add(1);
-        }
-        is_first = *byte == b'\n';
-    }
-    count
-}
-
-// Judges the problems of a text and hands on their rows: 2 where a line is bad, else 0 where each is sound, else 1.
+// Judges the problems of a text and hands on their rows: the worst status of a line, which is 2 where the line is bad.
 //
 // # Errors
 // `Memory`, with the rows of the first lines written, and `Write` where the sink has failed.

@@ -28,6 +28,7 @@ mod limits;
 mod lists;
 mod paging;
 mod positions;
+mod problems;
 mod refusals;
 mod screen;
 mod searching;

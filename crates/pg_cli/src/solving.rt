@@ -159,6 +159,7 @@ fn solve_problem<R: Runtime + AllocGlobal, W: Sink>(
         name: "",
         problem,
         games,
+        bad: None,
     };
     solve_entry(rt, &entry, orders, terminal, out)
 }
@@ -199,6 +200,7 @@ fn solve_shortest<R: Runtime + AllocGlobal, W: Sink>(
             length: length_of(MOST),
         },
         games: Games::new(rt.alloc()),
+        bad: None,
     };
     let shortest = Orders {
         reach: orders.reach,

@@ -1,15 +1,28 @@
 -- Why a line spells no problem, and that it spells one. Leads to the contract of `read_named`.
 use Rattle.std.proofs.Common.{◌≡◌, ℕ, ◌<◌, List, [], ◌∷◌, inl, inr, length, sym, subst, ap, arith, ◌∙◌}
-use Rattle.std.specs.Prelude.{Ok}
+use Rattle.std.specs.Prelude.{Ok, Some}
 use Rattle.pg_fen.specs.Fields.{fields}
 use Rattle.pg_fen.specs.DiagramText.{diagram_of}
 use Rattle.pg_fen.specs.Lengths.{length_of}
+use Rattle.pg_position.specs.declared.moves.Move.{Move}
 use Rattle.pg_san.specs.GameText.{words}
-use Rattle.pg_san.specs.Listing.{IsListing}
-use Rattle.pg_judge.specs.Entries.{Begins, IsEntry, IsEntryFault, IsGamesFault, IsHash, IsName, IsProblemFault}
+use Rattle.pg_san.specs.Listing.{IsTextFault}
+use Rattle.pg_san.specs.declared.fault.SanFault.{SanFault}
+use Rattle.pg_san.specs.declared.listing_fault.GamesFault.{GamesFault}
+use Rattle.pg_san.specs.declared.listing_fault.GamesFault.TheVariants.{At}
+use Rattle.pg_judge.specs.Entries.{Begins, IsAuthor, IsEntry, IsEntryFault, IsGamesFault, IsHash, IsName, IsProblemFault}
 use Rattle.pg_judge.specs.declared.entry.Entry.{Entry}
 use Rattle.pg_judge.specs.declared.entry_fault.EntryFault.{EntryFault}
 use Rattle.pg_judge.specs.declared.entry_fault.EntryFault.TheVariants.{Name, Short, NotUtf8, Diagram, Length, Games}
+
+-- a word of a line is no move
+pub stops : (text : List ℕ) (games : List (List Move)) (fault : GamesFault) (line ply : ℕ) (cause : SanFault) → games ≡ []
+    → fault ≡ At line ply cause → IsTextFault text fault → IsAuthor text games (Some (record { ply = ply; cause = cause }))
+stops text games fault line ply cause none is h = (none, (line, subst (λ (x : GamesFault). IsTextFault text x) is h))
+
+-- it is refused otherwise
+pub refused : (text : List ℕ) (fault said : GamesFault) → fault ≡ said → IsTextFault text fault → IsTextFault text said
+refused text fault said is h = subst (λ (x : GamesFault). IsTextFault text x) is h
 
 -- a text with one word has fewer than two
 pub one_word : (text word rest : List ℕ) → words text ≡ word ∷ words rest → words rest ≡ [] → length (words text) < 2
@@ -49,13 +62,15 @@ bad_games line name rest d l g (Length f) b is e h = absurd h
 bad_games line name rest d l g (Games f) b is e h = (name, d, l, g, (behind line name rest d l g b e, b.1, is), inr h)
 
 pub spelled : (line name rest d l g : List ℕ) (entry : Entry) → entry.name.now ≡ name → Begins line name rest → IsName name → words rest ≡ d ∷ l ∷ words g
-    → diagram_of (fields d) ≡ Ok entry.problem.diagram → length_of l ≡ Ok entry.problem.length → IsListing g entry.games → IsEntry line entry
-spelled line name rest d l g entry same b is e di le li = record {
+    → diagram_of (fields d) ≡ Ok entry.problem.diagram → length_of l ≡ Ok entry.problem.length → IsAuthor g entry.games entry.bad → IsEntry line entry
+spelled line name rest d l g entry same b is e di le by = record {
   diagram = d;
   length = l;
   games = g;
   words_are = behind line name rest d l g b e ∙ ap (λ (x : List ℕ). x ∷ d ∷ l ∷ words g) (sym same);
   is_no_comment = subst (λ (x : List ℕ). ¬ IsHash x) (sym same) b.1;
   is_name = subst (λ (x : List ℕ). IsName x) (sym same) is;
-  are_spelled = record { diagram_is = di; length_is = le; games_are = li };
+  diagram_is = di;
+  length_is = le;
+  author_is = by;
 }

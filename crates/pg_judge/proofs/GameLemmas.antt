@@ -11,7 +11,12 @@ use Rattle.pg_texts.specs.declared.verdict.Verdict.{Verdict}
 use Rattle.pg_texts.specs.declared.verdict.Verdict.TheVariants.{Sound}
 use Rattle.pg_cooks.specs.Unsound.{IsUnsound, HasNoAnswer}
 use Rattle.pg_cooks.proofs.CookLemmas.{not_sound, shorter}
-use Rattle.pg_judge.specs.Ruling.{IsFinding, IsSaidSound, IsSound}
+use Rattle.pg_checker.specs.Listed.{IsListFault}
+use Rattle.pg_checker.specs.declared.fault.ListFault.{ListFault}
+use Rattle.pg_checker.specs.declared.fault.ListFault.TheVariants.{WrongLength, NotReaching}
+use Rattle.pg_judge.specs.Ruling.{IsFinding, IsGiven, IsSaidSound, IsSound}
+use Rattle.pg_judge.specs.declared.entry.Entry.{Entry}
+use Rattle.pg_judge.specs.declared.given.Given.TheVariants.{OfPlies, EndsElsewhere}
 use Rattle.pg_judge.specs.declared.ruling.Finding.{Finding}
 use Rattle.pg_judge.specs.declared.ruling.Finding.TheVariants.{Settled, NotSound, NotSettled}
 
@@ -60,6 +65,23 @@ some_games games n is some e = some (is ∙ ap (λ (x : List (List Move)). lengt
 
 pub no_games : (games : List (List Move)) (n : ℕ) → n ≡ length games → n ≡ 0 → games ≡ []
 no_games games n is none = nil_from_length games (sym is ∙ none)
+
+-- the game that is at fault is one of the list
+pub at_fault : (d : Placement) (n : ℕ) (games : List (List Move)) (fault : ListFault) (i : ℕ) → fault ≡ WrongLength i → IsListFault d n games fault
+    → i < length games
+at_fault d n games fault i is h =
+    let f : IsListFault d n games (WrongLength i) = subst (λ (x : ListFault). IsListFault d n games x) is h in
+    slice_get_within games i f.1.0 f.1.1
+
+pub of_plies : (entry : Entry) (fault : ListFault) (i plies : ℕ) → fault ≡ WrongLength i
+    → IsListFault entry.problem.diagram entry.problem.length entry.games fault
+    → (game : List Move) × (slice_get entry.games i ≡ Some game) × (length game ≡ plies) → IsGiven entry (OfPlies plies)
+of_plies entry fault i plies is h game =
+    (i, subst (λ (x : ListFault). IsListFault entry.problem.diagram entry.problem.length entry.games x) is h, game)
+
+pub ends_elsewhere : (entry : Entry) (fault : ListFault) (i : ℕ) → fault ≡ NotReaching i
+    → IsListFault entry.problem.diagram entry.problem.length entry.games fault → IsGiven entry EndsElsewhere
+ends_elsewhere entry fault i is h = (i, subst (λ (x : ListFault). IsListFault entry.problem.diagram entry.problem.length entry.games x) is h)
 
 -- a copy of the first of a list of solutions
 pub copied : (d : Placement) (n : ℕ) (games : List (List Move)) (first before items : List Move) → before ≡ [] → items ≡ before ++ first → AreSolutions d n games

@@ -116,7 +116,7 @@ written d n author (NotSettled known) h = tt
 
 -- ---- a row
 pub row : (entry : Entry) (ruling : Ruling) (old : Old) (given : Given) (a b c e : Option (List ℕ))
-    → IsGiven entry.problem.diagram entry.problem.length entry.games given
+    → IsGiven entry given
     → Appends a b (head_text entry.name.now entry.problem.length given ruling old) → AddsSome (IsDetail entry.games ruling.finding) b c
     → Appends c e (codes "\n") → AddsSome (IsRowOf entry ruling old) a e
 row entry ruling old given a b c e is first (detail, tells, second) last =

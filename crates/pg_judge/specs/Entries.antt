@@ -1,5 +1,5 @@
 -- A line of a file of problems: a name, a diagram, a length, and behind them, if wanted, the author's game.
-use Rattle.std.specs.Prelude.{◌≡◌, ◌≢◌, ◌⊎◌, ◌<◌, ℕ, Bool, true, ◌||◌, ◌==◌, List, [], ◌∷◌, length, slice_get, Some, Err}
+use Rattle.std.specs.Prelude.{◌≡◌, ◌≢◌, ◌⊎◌, ◌<◌, ℕ, Bool, true, ◌||◌, ◌==◌, List, [], ◌∷◌, length, slice_get, Option, Some, None, Ok, Err}
 use Rattle.std.specs.List.{list_all}
 use Rattle.std.specs.Char.{is_ascii_alphanumeric}
 use Rattle.std.specs.Str.{IsUtf8}
@@ -8,8 +8,10 @@ use Rattle.pg_fen.specs.Fields.{fields}
 use Rattle.pg_fen.specs.DiagramText.{diagram_of}
 use Rattle.pg_fen.specs.Lengths.{length_of}
 use Rattle.pg_san.specs.GameText.{words}
-use Rattle.pg_san.specs.Listing.{IsTextFault}
-use Rattle.pg_texts.specs.Spelled.{AreSpelled}
+use Rattle.pg_position.specs.declared.moves.Move.{Move}
+use Rattle.pg_san.specs.Listing.{IsListing, IsTextFault}
+use Rattle.pg_san.specs.declared.listing_fault.GamesFault.TheVariants.{At}
+use Rattle.pg_judge.specs.declared.entry.BadMove.{BadMove}
 use Rattle.pg_judge.specs.declared.entry.Entry.{Entry}
 use Rattle.pg_judge.specs.declared.entry_fault.EntryFault.{EntryFault}
 use Rattle.pg_judge.specs.declared.entry_fault.EntryFault.TheVariants.{Name, Short, NotUtf8, Diagram, Length, Games}
@@ -36,7 +38,12 @@ IsSkipped line = (words line ≡ []) ⊎ ((word : List ℕ) × (more : List (Lis
 abbrev pub Begins : List ℕ → List ℕ → List ℕ → Type 0
 Begins line name rest = (words line ≡ name ∷ words rest) × ¬ IsHash name
 
--- the line spells a problem: a name, a diagram, a length, and the games of what stands behind them
+-- the games are those of the text; or it is refused by this word of a line, and they are none
+abbrev pub IsAuthor : List ℕ → List (List Move) → Option BadMove → Type 0
+IsAuthor text games None = IsListing text games
+IsAuthor text games (Some bad) = (games ≡ []) × ((line : ℕ) × IsTextFault text (At line bad.ply bad.cause))
+
+-- the line spells a problem: a name, a diagram, a length, and the author's games of what stands behind them
 pub record IsEntry (line : List ℕ) (entry : Entry) : Type 0 where
   pub diagram : List ℕ
   pub length : List ℕ
@@ -44,7 +51,9 @@ pub record IsEntry (line : List ℕ) (entry : Entry) : Type 0 where
   pub words_are : words line ≡ entry.name.now ∷ diagram ∷ length ∷ words games
   pub is_no_comment : ¬ IsHash entry.name.now
   pub is_name : IsName entry.name.now
-  pub are_spelled : AreSpelled diagram length games entry.problem.diagram entry.problem.length entry.games
+  pub diagram_is : diagram_of (fields diagram) ≡ Ok entry.problem.diagram
+  pub length_is : length_of length ≡ Ok entry.problem.length
+  pub author_is : IsAuthor games entry.games entry.bad
 
 -- ---- faults
 -- the line has a name and two more words, and then the text of games
@@ -59,14 +68,15 @@ IsProblemFault diagram length (Diagram fault) = diagram_of (fields diagram) ≡ 
 IsProblemFault diagram length (Length fault) = length_of length ≡ Err fault
 IsProblemFault diagram length fault = ⊥
 
--- why a text is no games: it is not UTF-8, or is refused
+-- why a text is neither games nor a word by which it is none: it is not UTF-8, or is refused otherwise
 abbrev pub IsGamesFault : List ℕ → EntryFault → Type 0
 IsGamesFault text NotUtf8 = ¬ IsUtf8 text
+IsGamesFault text (Games (At line ply cause)) = ⊥
 IsGamesFault text (Games fault) = IsTextFault text fault
 IsGamesFault text fault = ⊥
 
 -- why a line that has words and is no comment spells no problem: its first word is no name; or it is, and the line has
--- fewer than three words; or it has three, and the second and the third are no problem, or what stands behind no games
+-- fewer than three words; or it has three, and the second and the third are no problem, or what stands behind is refused
 abbrev pub IsEntryFault : List ℕ → EntryFault → Type 0
 IsEntryFault line Name = (name : List ℕ) × (rest : List ℕ) × Begins line name rest × (IsUtf8 name → ¬ IsName name)
 IsEntryFault line Short = (name : List ℕ) × (rest : List ℕ) × Begins line name rest × IsName name × (length (words line) < 3)

@@ -12,7 +12,7 @@ use Rattle.pg_cooks.specs.Parting.{apart_text, pair_text}
 use Rattle.pg_judge.specs.Ruling.{IsGiven}
 use Rattle.pg_judge.specs.declared.entry.Entry.{Entry}
 use Rattle.pg_judge.specs.declared.given.Given.{Given}
-use Rattle.pg_judge.specs.declared.given.Given.TheVariants.{NoGame, Solves, Fails}
+use Rattle.pg_judge.specs.declared.given.Given.TheVariants.{NoGame, Solves, StopsAt, OfPlies, EndsElsewhere}
 use Rattle.pg_judge.specs.declared.old.Old.{Old}
 use Rattle.pg_judge.specs.declared.old.Old.TheVariants as stood
 use Rattle.pg_judge.specs.declared.progress.Effort.{Effort}
@@ -35,11 +35,17 @@ finding_text (Settled verdict games) = verdict_text verdict
 finding_text (NotSound evidence) = codes "not sound"
 finding_text (NotSettled known) = codes "not settled"
 
+-- how many plies
+abbrev pub plies_text : ℕ → List ℕ
+plies_text n = decimal n ++ cond (eqb n 1) (codes " ply") (codes " plies")
+
 -- what the author's game is
 abbrev pub given_text : Given → List ℕ
 given_text NoGame = codes "-"
 given_text Solves = codes "solves"
-given_text Fails = codes "fails"
+given_text (StopsAt ply) = codes "fails, ply " ++ decimal ply
+given_text (OfPlies plies) = codes "fails, " ++ plies_text plies
+given_text EndsElsewhere = codes "fails, ends elsewhere"
 
 -- which search
 abbrev pub effort_text : Effort → List ℕ
@@ -152,8 +158,7 @@ pub record IsRow (name : List ℕ) (plies : ℕ) (author : List (List Move)) (gi
 
 -- the row of a problem, of what is found and by what, and of a certificate that stood there
 abbrev pub IsRowOf : Entry → Ruling → Old → List ℕ → Type 0
-IsRowOf entry ruling old text = (given : Given)
-    × IsGiven entry.problem.diagram entry.problem.length entry.games given
+IsRowOf entry ruling old text = (given : Given) × IsGiven entry given
     × IsRow entry.name.now entry.problem.length entry.games given ruling old text
 
 -- ---- what is written

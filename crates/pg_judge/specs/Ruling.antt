@@ -1,5 +1,5 @@
 -- What a ruling on a problem says of it, and what its games are.
-use Rattle.std.specs.Prelude.{◌≡◌, ◌≢◌, ◌⊎◌, ℕ, ◌<◌, ◌≤◌, None, List, [], ◌∷◌, length}
+use Rattle.std.specs.Prelude.{◌≡◌, ◌≢◌, ◌⊎◌, ℕ, ◌<◌, ◌≤◌, None, Some, List, [], ◌∷◌, length, slice_get}
 use Rattle.std.specs.List.{Contains}
 use Rattle.pg_board.specs.Placement.{Placement}
 use Rattle.pg_position.specs.declared.moves.Move.{Move}
@@ -7,14 +7,15 @@ use Rattle.pg_texts.specs.Report.{IsVerdict}
 use Rattle.pg_texts.specs.declared.verdict.Verdict.TheVariants.{Sound}
 use Rattle.pg_checker.specs.Answer.{IsSolution, IsExactAnswer, AreSolutions}
 use Rattle.pg_checker.specs.Listed.{IsListFault}
-use Rattle.pg_checker.specs.declared.fault.ListFault.{ListFault}
+use Rattle.pg_checker.specs.declared.fault.ListFault.TheVariants.{WrongLength, NotReaching}
 use Rattle.pg_cooks.specs.Unsound.{IsUnsound}
 use Rattle.pg_judge.specs.declared.ruling.Evidence.{Evidence}
 use Rattle.pg_judge.specs.declared.ruling.Evidence.TheVariants.{Several, Another, Shorter}
 use Rattle.pg_judge.specs.Entries.{IsEntry, IsSkipped}
+use Rattle.pg_judge.specs.declared.entry.BadMove.{BadMove}
 use Rattle.pg_judge.specs.declared.entry.Entry.{Entry}
 use Rattle.pg_judge.specs.declared.given.Given.{Given}
-use Rattle.pg_judge.specs.declared.given.Given.TheVariants.{NoGame, Solves, Fails}
+use Rattle.pg_judge.specs.declared.given.Given.TheVariants.{NoGame, Solves, StopsAt, OfPlies, EndsElsewhere}
 use Rattle.pg_judge.specs.declared.ruling.Finding.{Finding}
 use Rattle.pg_judge.specs.declared.ruling.Finding.TheVariants.{Settled, NotSound, NotSettled}
 use Rattle.pg_judge.specs.declared.ruling.Means.TheVariants.{Unread}
@@ -62,8 +63,14 @@ IsSoundLine line = IsSkipped line
     ⊎ ((entry : Entry) × IsEntry line entry × IsSound entry.problem.diagram entry.problem.length)
 
 -- ---- the author's game
--- what the author's games are: none is given; or each is a solution; or one is not
-abbrev pub IsGiven : Placement → ℕ → List (List Move) → Given → Type 0
-IsGiven d n games NoGame = games ≡ []
-IsGiven d n games Solves = (games ≢ []) × AreSolutions d n games
-IsGiven d n games Fails = (games ≢ []) × ((fault : ListFault) × IsListFault d n games fault)
+-- What the author's games are: none is given; or each is a solution; or a word of this ply is no move; or the first that
+-- is no solution has so many plies, and not as many as stated, or it has these and ends elsewhere.
+abbrev pub IsGiven : Entry → Given → Type 0
+IsGiven entry NoGame = (entry.bad ≡ None) × (entry.games ≡ [])
+IsGiven entry Solves = (entry.games ≢ []) × AreSolutions entry.problem.diagram entry.problem.length entry.games
+IsGiven entry (StopsAt ply) = (bad : BadMove) × (entry.bad ≡ Some bad) × (bad.ply ≡ ply)
+IsGiven entry (OfPlies plies) = (i : ℕ)
+    × IsListFault entry.problem.diagram entry.problem.length entry.games (WrongLength i)
+    × ((game : List Move) × (slice_get entry.games i ≡ Some game) × (length game ≡ plies))
+IsGiven entry EndsElsewhere = (i : ℕ)
+    × IsListFault entry.problem.diagram entry.problem.length entry.games (NotReaching i)

@@ -6,23 +6,30 @@ ghost use Rattle.pg_fen.specs.Fields.{fields};
 ghost use Rattle.pg_fen.specs.DiagramText.{diagram_of};
 ghost use Rattle.pg_fen.specs.Lengths.{length_of};
 ghost use Rattle.pg_san.specs.GameText.{words};
-ghost use Rattle.pg_san.specs.Listing.{IsListing};
-ghost use Rattle.pg_judge.specs.Entries.{Begins, IsEntry, IsEntryFault, IsGamesFault, IsHash, IsName, IsProblemFault};
-ghost use Rattle.pg_judge.specs.Entries.{IsSkipped, is_name_byte};
+ghost use Rattle.pg_judge.specs.Entries.{Begins, IsAuthor, IsEntry, IsEntryFault, IsGamesFault, IsHash, IsName};
+ghost use Rattle.pg_judge.specs.Entries.{IsProblemFault, IsSkipped, is_name_byte};
 
 use crate::entry_fault::EntryFault;
 use pg_checker::Problem;
 use pg_fen::{Diagram, Length};
-use pg_san::{Games, next_word, read_games};
+use pg_san::{Games, GamesFault, SanFault, next_word, read_games};
 use std::alloc::Global;
 use std::str;
 
-/// A problem: its name, what it asks, and the author's game, if he gives one.
+/// A word of the author's game that is no move: its ply, counted from 1, and why.
+#[derive(Clone, Copy, Debug, PartialEq, Eq)]
+pub struct BadMove {
+    pub ply: usize,
+    pub cause: SanFault,
+}
+
+/// A problem: its name, what it asks, and the author's game, if he gives one; or the word by which that is none.
 #[derive(Drop)]
 pub struct Entry<'a> {
     pub name: &'a str,
     pub problem: Problem,
     pub games: Games,
+    pub bad: Option<BadMove>,
 }
 
 fn is_name_byte(byte: u8) -> bool
@@ -126,9 +133,16 @@ fn read_problem(diagram: &[u8], length: &[u8]) -> Result<Problem, EntryFault>
     }
 }
 
-// The games that a text spells.
-fn read_author(alloc: Global, text: &[u8]) -> Result<Games, EntryFault>
-    ensures ok { IfOk result (λ games. IsListing text.now games) }
+// The author's games, or the word by which they are none.
+#[derive(Drop)]
+struct Author {
+    games: Games,
+    bad: Option<BadMove>,
+}
+
+// The author's games that a text spells, or the first word of it that is no move.
+fn read_author(alloc: Global, text: &[u8]) -> Result<Author, EntryFault>
+    ensures ok { IfOk result (λ a. IsAuthor text.now a.games a.bad) }
     ensures err { IfErr result (λ e. IsGamesFault text.now e) }
 {
     let text = match str::from_utf8(text) {
@@ -136,8 +150,20 @@ fn read_author(alloc: Global, text: &[u8]) -> Result<Games, EntryFault>
         Err(_) => return Err(EntryFault::NotUtf8),
     };
     match read_games(alloc, text) {
-        Ok(games) => Ok(games),
-        Err(fault) => Err(EntryFault::Games(fault)),
+        Ok(games) => Ok(Author { games, bad: None }),
+        Err(
+            GamesFault::At {
+                line: _,
+                ply,
+                cause,
+            },
+        ) => Ok(Author {
+            games: Games::new(alloc),
+            bad: Some(BadMove { ply, cause }),
+        }),
+        Err(GamesFault::TooMany { line }) => Err(EntryFault::Games(GamesFault::TooMany { line })),
+        Err(GamesFault::Repeated { line }) => Err(EntryFault::Games(GamesFault::Repeated { line })),
+        Err(GamesFault::Memory) => Err(EntryFault::Games(GamesFault::Memory)),
     }
 }
 
@@ -161,10 +187,11 @@ fn read_named<'a>(alloc: Global, name: &'a [u8], rest: &[u8]) -> Result<Entry<'a
         Err(fault) => return Err(fault),
     };
     match read_author(alloc, parts.games) {
-        Ok(games) => Ok(Entry {
+        Ok(author) => Ok(Entry {
             name,
             problem,
-            games,
+            games: author.games,
+            bad: author.bad,
         }),
         Err(fault) => Err(fault),
     }
@@ -174,12 +201,13 @@ fn read_named<'a>(alloc: Global, name: &'a [u8], rest: &[u8]) -> Result<Entry<'a
 /// diagram (the placement field of FEN; the PGN standard, section 16.1), and the third a length in moves such as
 /// `18.5`; what stands behind them is the author's game, as `read_games` reads a line, or nothing. The name has letters
 /// and digits of ASCII, hyphens, underscores and dots, and begins with no dot, so that it is fit for the name of a
-/// file. None where the line has no words, or where its first word begins with `#`. The games are taken from `alloc`.
+/// file. None where the line has no words, or where its first word begins with `#`. Where a word of the game is no move
+/// there are no games, and `bad` is that word. The games are taken from `alloc`.
 ///
 /// # Errors
 /// In this order: `Name` where the first word is no name; `Short` where there are fewer than three words; `NotUtf8`
 /// where the second or the third is not UTF-8, then `Diagram` and `Length` where that one is refused; `NotUtf8` where
-/// what stands behind them is not UTF-8; `Games` where it is refused, or where memory is refused for it.
+/// what stands behind them is not UTF-8; `Games` with `Memory` where memory is refused for it.
 pub fn read_entry<'a>(alloc: Global, line: &'a [u8]) -> Result<Option<Entry<'a>>, EntryFault>
     ensures skipped { IfOk result (λ o. IfNone o (IsSkipped line.now)) }
     ensures ok { IfOk result (λ o. IfSome o (λ e. IsEntry line.now e)) }

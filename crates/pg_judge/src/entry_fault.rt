@@ -18,7 +18,7 @@ pub enum EntryFault {
     Diagram(FenFault),
     /// The third word is refused as a length.
     Length(LengthFault),
-    /// What stands behind the length is refused as a game.
+    /// What stands behind the length is refused as a list, and not by a word of it.
     Games(GamesFault),
 }
 
@@ -30,13 +30,6 @@ impl Display for EntryFault {
             EntryFault::NotUtf8 => f.write_str("not UTF-8"),
             EntryFault::Diagram(fault) => Display::fmt(fault, f),
             EntryFault::Length(fault) => Display::fmt(fault, f),
-            EntryFault::Games(
-                GamesFault::At {
-                    line: _,
-                    ply,
-                    cause,
-                },
-            ) => { write!(f, "ply {ply}: {cause}") }
             EntryFault::Games(fault) => Display::fmt(fault, f),
         }
     }

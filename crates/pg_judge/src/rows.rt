@@ -46,14 +46,13 @@ fn finding_words(finding: &Finding) -> &'static str
     }
 }
 
-// The words for what the author's game is.
-fn given_words(given: Given) -> &'static str
-    ensures { result.now ≡ given_text given }
+// The word behind a number of plies.
+fn plies_words(n: usize) -> &'static str
+    ensures { result.now ≡ cond (eqb n 1) (codes " ply") (codes " plies") }
 {
-    match given {
-        Given::NoGame => "-",
-        Given::Solves => "solves",
-        Given::Fails => "fails",
+    match n {
+        1 => " ply",
+        _ => " plies",
     }
 }
 
@@ -126,6 +125,27 @@ fn write_number<W: Sink>(before: &str, n: usize, behind: &str, out: &mut W) -> R
     out.push(behind.as_bytes())
 }
 
+// Appends the ply at which a game stops.
+fn write_stop<W: Sink>(ply: usize, out: &mut W) -> Result<(), Refused>
+    ensures { Pushes W.held W.has_failed (Adds (codes "fails, ply " ++ decimal ply)) out.old out.new result }
+{
+    out.push(b"fails, ply ")?;
+    out.push(digits(ply).as_bytes())
+}
+
+// Appends what the author's game is.
+fn write_given<W: Sink>(given: Given, out: &mut W) -> Result<(), Refused>
+    ensures { Pushes W.held W.has_failed (Adds (given_text given)) out.old out.new result }
+{
+    match given {
+        Given::NoGame => out.push(b"-"),
+        Given::Solves => out.push(b"solves"),
+        Given::StopsAt(ply) => write_stop(ply, out),
+        Given::OfPlies(plies) => write_number("fails, ", plies, plies_words(plies), out),
+        Given::EndsElsewhere => out.push(b"fails, ends elsewhere"),
+    }
+}
+
 // Appends by what something was found.
 fn write_means<W: Sink>(means: Means, out: &mut W) -> Result<(), Refused>
     ensures { Pushes W.held W.has_failed (Adds (means_text means)) out.old out.new result }
@@ -152,6 +172,17 @@ fn write_columns<W: Sink>(first: &str, second: &str, out: &mut W) -> Result<(), 
     out.push(b"\t")
 }
 
+// Appends what is found and what the author's game is, with a tab behind each.
+fn write_found<W: Sink>(finding: &Finding, given: Given, out: &mut W) -> Result<(), Refused>
+    ensures { Pushes W.held W.has_failed
+        (Adds (finding_text finding.now ++ (codes "\t" ++ (given_text given ++ codes "\t")))) out.old out.new result }
+{
+    out.push(finding_words(finding).as_bytes())?;
+    out.push(b"\t")?;
+    write_given(given, out)?;
+    out.push(b"\t")
+}
+
 // Appends by what something was found, with a tab behind it.
 fn write_how<W: Sink>(means: Means, old: Old, out: &mut W) -> Result<(), Refused>
     ensures { Pushes W.held W.has_failed
@@ -175,7 +206,7 @@ fn write_head<W: Sink>(
         (Adds (head_text name.now length given ruling.now old)) out.old out.new result }
 {
     write_columns(name, length.write().as_str(), out)?;
-    write_columns(finding_words(&ruling.finding), given_words(given), out)?;
+    write_found(&ruling.finding, given, out)?;
     write_how(ruling.means, old, out)
 }
 
@@ -346,8 +377,8 @@ fn append_row<W: Sink>(
 
 /// Writes the row of a problem, of what is found of it and by what, and of a certificate that stood there and did not
 /// settle it. The columns, with a tab between two of them: the name; the length; `sound`, `cooked`, `no game`, `not
-/// sound` or `not settled`; `-` where no game is given, `solves` where the author's game does, `fails` where it does
-/// not; by what it was found, as `search, 67036 nodes`, `journeys, 3033 nodes`, `drawn, 64 nodes`, `tariffs, 64 nodes`, `tolls, 64 nodes`,
+/// sound` or `not settled`; `-` where no game is given, `solves` where the author's game does, else `fails, ply 7` for
+/// the word that is no move, `fails, 12 plies` or `fails, ends elsewhere`; by what it was found, as `search, 67036 nodes`, `journeys, 3033 nodes`, `drawn, 64 nodes`, `tariffs, 64 nodes`, `tolls, 64 nodes`,
 /// `cooks, 211 nodes`, `certificate, 67037 records` or `certificate, time is over`, and `, old certificate refused` or
 /// `, certificate of another problem kept`; and last the game, of more than one their number and the first two, the
 /// other game, the shorter one, or what is known where nothing is settled. Behind two games, and behind another game

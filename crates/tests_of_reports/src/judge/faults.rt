@@ -3,11 +3,21 @@
 use super::*;
 use crate::shared::halves;
 
+// The name of a problem, and why the author's game is none.
+fn told<R: Abort + AllocGlobal>(rt: &R, entry: &Entry<'_>) -> String {
+    let name = entry.name;
+    match &entry.bad {
+        Some(bad) => format!(in rt.alloc(); "a problem, {name}, ply {}: {}", bad.ply, bad.cause),
+        None => format!(in rt.alloc(); "a problem, {name}"),
+    }
+    .expect(rt, "memory")
+}
+
 // What a line is refused for; `skipped` where it spells no problem and is none.
 fn check_line<R: Abort + AllocGlobal>(rt: &R, line: &[u8], wanted: &str) {
     let found = match read_entry(rt.alloc(), line) {
         Ok(None) => String::from_str(rt.alloc(), "skipped").expect(rt, "memory"),
-        Ok(Some(entry)) => format!(in rt.alloc(); "a problem, {}", entry.name).expect(rt, "memory"),
+        Ok(Some(entry)) => told(rt, &entry),
         Err(fault) => format!(in rt.alloc(); "{fault}").expect(rt, "memory"),
     };
     assert_eq!(rt; found.as_str(), wanted);
@@ -28,8 +38,8 @@ x rnbqkbnr/pppppppp/8/8/8/8/PPPPPPPP/RNBQKBNR => a name, a diagram and a length 
 x rnbqkbnr/pppppppp/8/8/8/8/PPPPPPPP/RNBQKBN 0 => bad rank
 x rnbqkbnr/pppppppp/8/8/8/8/PPPPPPPP/RNBQKBNR 0,5 => bad length
 x rnbqkbnr/pppppppp/8/8/8/8/PPPPPPPP/RNBQKBNR 64.5 => length above 64.0
-x rnbqkbnr/pppppppp/8/8/8/8/PPPPPPPP/RNBQKBNR 2 1. e4 e4 => ply 2: no such legal move
-x rnbqkbnr/pppppppp/8/8/8/8/PPPPPPPP/RNBQKBNR 2 1. e4 ?? => ply 2: not a move";
+x rnbqkbnr/pppppppp/8/8/8/8/PPPPPPPP/RNBQKBNR 2 1. e4 e4 => a problem, x, ply 2: no such legal move
+x rnbqkbnr/pppppppp/8/8/8/8/PPPPPPPP/RNBQKBNR 2 1. e4 ?? => a problem, x, ply 2: not a move";
 
 #[test]
 fn lines(rt: HostRuntime) {

@@ -17,7 +17,10 @@ fn rows_of<R: Abort + AllocGlobal>(rt: &R, problems: &str, limits: Limits) -> St
 const PROBLEMS: &str = "array rnbqkbnr/pppppppp/8/8/8/8/PPPPPPPP/RNBQKBNR 0 -
 schweig r1bqkbnr/ppp2ppp/3p4/8/8/8/PPPPPPPP/R1BQKBNR 4.0 1. Nc3 d6 2. Nd5 Nd7 3. Nxe7 Ndf6 4. Nxg8 Nxg8
 alone r1bqkbnr/ppp2ppp/3p4/8/8/8/PPPPPPPP/R1BQKBNR 4.0
-elsewhere r1bqkbnr/ppp2ppp/3p4/8/8/8/PPPPPPPP/R1BQKBNR 4.0 1. e4
+short r1bqkbnr/ppp2ppp/3p4/8/8/8/PPPPPPPP/R1BQKBNR 4.0 1. e4
+stops rnbqkbnr/pppppppp/8/8/8/8/PPPPPPPP/RNBQKBNR 0 1. e4 e4
+ends rnbqkbnr/pppp1ppp/8/4p3/4P3/8/PPPP1PPP/RNBQKBNR 1.0 1. e3 e5
+long rnbqkbnr/pppppppp/8/8/8/8/PPPPPPPP/RNBQKBNR 0 1. e4 e5
 orders rnbqkbnr/pppp1ppp/4p3/8/8/3PP3/PPP2PPP/RNBQKBNR 1.5
 four rnbqkbnr/1pp1pppp/p2P4/8/8/8/PPPP1PPP/RNBQKBNR 2.5
 none rnbqkbnr/pppp1ppp/8/4p3/4P3/8/PPPP1PPP/RNBQKBNR 0.5
@@ -28,7 +31,10 @@ short-by-search rnbqkbnr/pppp1ppp/8/4p3/4P3/8/PPPP1PPP/RNBQKBNR 2.0";
 const ROWS: &str = "array|0.0|sound|solves|search, 0 nodes|-
 schweig|4.0|sound|solves|search, 67036 nodes|1. Nc3 d6 2. Nd5 Nd7 3. Nxe7 Ndf6 4. Nxg8 Nxg8
 alone|4.0|sound|-|search, 67036 nodes|1. Nc3 d6 2. Nd5 Nd7 3. Nxe7 Ndf6 4. Nxg8 Nxg8
-elsewhere|4.0|sound|fails|search, 67036 nodes|1. Nc3 d6 2. Nd5 Nd7 3. Nxe7 Ndf6 4. Nxg8 Nxg8
+short|4.0|sound|fails, 1 ply|search, 67036 nodes|1. Nc3 d6 2. Nd5 Nd7 3. Nxe7 Ndf6 4. Nxg8 Nxg8
+stops|0.0|sound|fails, ply 2|search, 0 nodes|-
+ends|1.0|sound|fails, ends elsewhere|search, 22 nodes|1. e4 e5
+long|0.0|sound|fails, 2 plies|search, 0 nodes|-
 orders|1.5|cooked|-|search, 63 nodes|2 games: 1. d3 e6 2. e3; 1. e3 e6 2. d3; they part \
 at move 1 of White, with the same moves in another order
 four|2.5|cooked|-|search, 236 nodes|4 games: 1. e4 a6 2. e5 d5 3. exd6; 1. e4 a6 2. e5 d6 3. exd6; they part at \
