@@ -4,7 +4,7 @@ ghost use Rattle.pg_checker.specs.Cuts.{any_rules_by, rules_by};
 ghost use Rattle.pg_checker.specs.Opening.{bytes_of};
 ghost use Rattle.pg_checker.specs.Terms.{terms};
 ghost use Rattle.clap.specs.Words.{found_of, rows_of};
-ghost use Rattle.pg_page.specs.Page.{IsShown, failures, has_journeys};
+ghost use Rattle.pg_page.specs.Page.{IsShown, failures};
 ghost use Rattle.pg_streams.specs.Buffer.{sink_of};
 ghost use Rattle.pg_cli.specs.Answers.{HasList};
 ghost use Rattle.pg_cli.specs.Runs.{IsPageRefusal, page_refusal};
@@ -53,7 +53,7 @@ pub(crate) fn page_on<S: Source, W: Sink>(
 ) -> Result<u8, Refusal>
     ensures head { OnOk result (ByRecords (rows_of (found_of words.now)) (λ records. IsShown
         (terms (rules_by code_of excluded bounds.now) records MOST_NAMED (bytes_of opened.old (S.left source.old)))
-        opened.old.diagram opened.old.plies (has_journeys code_of bounds.now)
+        opened.old.diagram opened.old.plies
         (⟦<Gathered<W> as Sink>⟧.held out.old) (W.held (sink_of out.new)))) }
     ensures zero { IfOk result (λ status. status ≡ 0) }
     ensures silent { (⟦<Gathered<W> as Sink>⟧.held out.new ≡ ⟦<Gathered<W> as Sink>⟧.held out.old)

@@ -1,5 +1,5 @@
 -- The texts of the games make the list, and the parts make the head. Leads to the contract of `page`.
-use Rattle.std.proofs.Common.{◌≡◌, ◌≢◌, ◌∙◌, ◌↔◌, ℕ, Bool, suc, ◌+◌, ◌-◌, ◌<◌, ◌≤◌, List, [], ◌∷◌, ◌++◌, Option, Some, length, get_or, take, drop, refl, sym, ap, subst, arith, append_assoc, append-nil, length-append, add-one}
+use Rattle.std.proofs.Common.{◌≡◌, ◌≢◌, ◌∙◌, ◌↔◌, ℕ, suc, ◌+◌, ◌-◌, ◌<◌, ◌≤◌, List, [], ◌∷◌, ◌++◌, Option, Some, length, get_or, take, drop, refl, sym, ap, subst, arith, append_assoc, append-nil, length-append, add-one}
 use Rattle.std.proofs.KnownBytes.{Appends-nil, Appends-trans}
 use Rattle.std.proofs.Math.Seq.{drop-cons}
 use Rattle.std.proofs.lemmas.List.{take_more, take_all, drop_all, nil_from_length}
@@ -25,7 +25,7 @@ use Rattle.pg_texts.specs.Movetext.{AddsLongest, IsMovetext}
 use Rattle.pg_page.specs.Board.{board_start, board_text, class_of, man_text, men_text, square_text}
 use Rattle.pg_page.specs.Escaping.{escaped}
 use Rattle.pg_page.specs.Heading.{AreGameItems, AreMoveTexts, IsGameItem, IsGameList, IsHead}
-use Rattle.pg_page.specs.Heading.{answer_text, asked, checked_text, closing, end_words, front_text, headed, titled, verdict_words}
+use Rattle.pg_page.specs.Heading.{answer_text, asked, checked_text, end_words, front_text, headed, titled, verdict_words}
 use Rattle.pg_page.specs.declared.heading.TheConstants.{CHECKED}
 use Rattle.pg_page.specs.declared.style.TheConstants.{BEGIN, MEN}
 use Rattle.pg_page.specs.Lines.{IsMoveText}
@@ -71,20 +71,19 @@ board_grows d x placement a b c e f g is_board is_placement p q r t u =
     Appends-trans a b g board_start (men_text d 64 ++ (middle ++ (said ++ last))) p (Appends-trans b c g (men_text d 64) (middle ++ (said ++ last)) q2 (Appends-trans c e g middle (said ++ last) r (Appends-trans e f g said last t2 u)))
 
 -- ---- what stands before the games
-pub front_grows : (d : Placement) (plies n : ℕ) (by_journeys : Bool) (begin placement length close men : List ℕ) (a b c e f g h i j k : Option (List ℕ)) → begin ≡ BEGIN.now → placement ≡ placement_text d → length ≡ length_text plies → n ≡ plies → close ≡ closing by_journeys → men ≡ MEN.now
-    → Appends a b begin → Appends b c (titled length) → Appends c e (escaped placement) → Appends e f (asked length) → Appends f g (decimal n) → Appends g h close → Appends h i men → Appends i j (headed length) → Appends j k (board_text d)
-    → Appends a k (front_text d plies by_journeys)
-front_grows d plies n by_journeys begin placement length close men a b c e f g h i j k is_begin is_placement is_length is_plies is_close is_men p q r s t u v w x =
+pub front_grows : (d : Placement) (plies n : ℕ) (begin placement length men : List ℕ) (a b c e f g h i j k : Option (List ℕ)) → begin ≡ BEGIN.now → placement ≡ placement_text d → length ≡ length_text plies → n ≡ plies → men ≡ MEN.now
+    → Appends a b begin → Appends b c (titled length) → Appends c e (escaped placement) → Appends e f (asked length) → Appends f g (decimal n) → Appends g h (codes "\">\n") → Appends h i men → Appends i j (headed length) → Appends j k (board_text d)
+    → Appends a k (front_text d plies)
+front_grows d plies n begin placement length men a b c e f g h i j k is_begin is_placement is_length is_plies is_men p q r s t u v w x =
     let p2 : Appends a b BEGIN.now = subst (λ (y : List ℕ). Appends a b y) is_begin p in
     let v2 : Appends h i MEN.now = subst (λ (y : List ℕ). Appends h i y) is_men v in
     let l = length_text plies in
     let said = escaped (placement_text d) in
-    let end = closing by_journeys in
+    let end = codes "\">\n" in
     let q2 : Appends b c (titled l) = given b c titled length l is_length q in
     let r2 : Appends c e said = given c e escaped placement (placement_text d) is_placement r in
     let s2 : Appends e f (asked l) = given e f asked length l is_length s in
     let t2 : Appends f g (decimal plies) = subst (λ (y : ℕ). Appends f g (decimal y)) is_plies t in
-    let u2 : Appends g h end = subst (λ (y : List ℕ). Appends g h y) is_close u in
     let w2 : Appends i j (headed l) = given i j headed length l is_length w in
     let x8 = headed l ++ board_text d in
     let x7 = MEN.now ++ x8 in
@@ -94,7 +93,7 @@ front_grows d plies n by_journeys begin placement length close men a b c e f g h
     let x3 = said ++ x4 in
     let h8 : Appends i k x8 = Appends-trans i j k (headed l) (board_text d) w2 x in
     let h7 : Appends h k x7 = Appends-trans h i k MEN.now x8 v2 h8 in
-    let h6 : Appends g k x6 = Appends-trans g h k end x7 u2 h7 in
+    let h6 : Appends g k x6 = Appends-trans g h k end x7 u h7 in
     let h5 : Appends f k x5 = Appends-trans f g k (decimal plies) x6 t2 h6 in
     let h4 : Appends e k x4 = Appends-trans e f k (asked l) x5 s2 h5 in
     let h3 : Appends c k x3 = Appends-trans c e k said x4 r2 h4 in
@@ -235,13 +234,13 @@ list_grows games a b c d p (items, are, q) r = (
 )
 
 -- ---- the head, and the page that begins with it
-pub head_grows : (d : Placement) (plies : ℕ) (by_journeys : Bool) (x : Answer) (a b c e : Option (List ℕ)) → Appends a b (front_text d plies by_journeys) → Appends b c (answer_text plies x) → AddsSome (IsGameList x.games) c e → AddsSome (IsHead d plies by_journeys x) a e
-head_grows d plies by_journeys x a b c e p q (games, are, r) = (
-  front_text d plies by_journeys ++ (answer_text plies x ++ games),
+pub head_grows : (d : Placement) (plies : ℕ) (x : Answer) (a b c e : Option (List ℕ)) → Appends a b (front_text d plies) → Appends b c (answer_text plies x) → AddsSome (IsGameList x.games) c e → AddsSome (IsHead d plies x) a e
+head_grows d plies x a b c e p q (games, are, r) = (
+  front_text d plies ++ (answer_text plies x ++ games),
   record { games = games; are_games = are; is = refl },
-  Appends-trans a b e (front_text d plies by_journeys) (answer_text plies x ++ games) p (Appends-trans b c e (answer_text plies x) games q r),
+  Appends-trans a b e (front_text d plies) (answer_text plies x ++ games) p (Appends-trans b c e (answer_text plies x) games q r),
 )
 
-pub page_grows : (d : Placement) (plies : ℕ) (by_journeys : Bool) (x : Answer) (a b c : Option (List ℕ)) → AddsSome (IsHead d plies by_journeys x) a b → Grows b c → AddsHead d plies by_journeys x a c
+pub page_grows : (d : Placement) (plies : ℕ) (x : Answer) (a b c : Option (List ℕ)) → AddsSome (IsHead d plies x) a b → Grows b c → AddsHead d plies x a c
 unfolding Grows
-page_grows d plies by_journeys x a b c (head, is, p) (rest, q) = (head, rest, is, Appends-trans a b c head rest p q)
+page_grows d plies x a b c (head, is, p) (rest, q) = (head, rest, is, Appends-trans a b c head rest p q)

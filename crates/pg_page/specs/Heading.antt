@@ -1,5 +1,5 @@
 -- What stands on a page above the trees: the title, the diagram, the verdict, what was checked, and the games.
-use Rattle.std.specs.Prelude.{◌≡◌, ℕ, Bool, true, false, ◌==◌, List, [], ◌∷◌, ◌++◌, codes, decimal, length, if◌then◌else◌, nat_le}
+use Rattle.std.specs.Prelude.{◌≡◌, ℕ, ◌==◌, List, [], ◌∷◌, ◌++◌, codes, decimal, length, if◌then◌else◌, nat_le}
 use Rattle.pg_board.specs.Placement.{Placement}
 use Rattle.pg_position.specs.declared.state.State.{State}
 use Rattle.pg_position.specs.declared.moves.Move.{Move}
@@ -23,24 +23,19 @@ titled length = codes "<title>A proof game in " ++ (length ++ codes " moves</tit
 abbrev pub asked : List ℕ → List ℕ
 asked length = codes "\" data-length=\"" ++ (length ++ codes "\" data-plies=\"")
 
--- and behind these: where the check went by journeys, the word that it takes
-abbrev pub closing : Bool → List ℕ
-closing true = codes "\" data-word=\"--journeys\">\n"
-closing false = codes "\">\n"
-
 -- the heading
 abbrev pub headed : List ℕ → List ℕ
 headed length = codes "<h1>A proof game in " ++ (length ++ codes " moves</h1>\n")
 
 -- what stands before the verdict: the style, the title, the problem for the script, the drawings of the men, the heading
 -- and the diagram
-abbrev pub front_text : Placement → ℕ → Bool → List ℕ
-front_text d plies by_journeys =
+abbrev pub front_text : Placement → ℕ → List ℕ
+front_text d plies =
     BEGIN.now
     ++ (titled (length_text plies)
     ++ (escaped (placement_text d)
     ++ (asked (length_text plies)
-    ++ (decimal plies ++ (closing by_journeys ++ (MEN.now ++ (headed (length_text plies) ++ board_text d)))))))
+    ++ (decimal plies ++ (codes "\">\n" ++ (MEN.now ++ (headed (length_text plies) ++ board_text d)))))))
 
 -- the verdict on so many games
 abbrev pub verdict_words : ℕ → List ℕ
@@ -95,8 +90,8 @@ IsGameList games text =
     (items : List ℕ) × AreGameItems games items
     × (text ≡ codes "<h2>The games</h2>\n<ol id=\"games\">\n" ++ (items ++ codes "</ol>\n"))
 
--- the head of a page of an answer to a diagram and so many plies, by a check that went by journeys or did not
-pub record IsHead (d : Placement) (plies : ℕ) (by_journeys : Bool) (a : Answer) (text : List ℕ) : Type 0 where
+-- the head of a page of an answer to a diagram and so many plies
+pub record IsHead (d : Placement) (plies : ℕ) (a : Answer) (text : List ℕ) : Type 0 where
   pub games : List ℕ
   pub are_games : IsGameList a.games games
-  pub is : text ≡ front_text d plies by_journeys ++ (answer_text plies a ++ games)
+  pub is : text ≡ front_text d plies ++ (answer_text plies a ++ games)

@@ -6,7 +6,7 @@ ghost use Rattle.pg_position.specs.Array.{array_state};
 ghost use Rattle.pg_san.specs.Games.{IsFromArray};
 ghost use Rattle.pg_texts.specs.Movetext.{IsMovetext};
 ghost use Rattle.pg_page.specs.Heading.{AreGameItems, AreMoveTexts, IsGameItem, IsGameList, IsHead};
-ghost use Rattle.pg_page.specs.Heading.{answer_text, checked_text, closing, end_words, front_text, verdict_words};
+ghost use Rattle.pg_page.specs.Heading.{answer_text, checked_text, end_words, front_text, verdict_words};
 
 use crate::board::write_board;
 use crate::lines::{move_text, write_around, write_escaped, write_number};
@@ -23,21 +23,10 @@ const CHECKED: &str =
 <code>pg</code> has tested each record. Its check is proved: where it says yes, the games below are all there are.</p>
 ";
 
-// What stands behind the number of plies: where the check went by journeys, the word that it takes, for the script.
-fn closing(by_journeys: bool) -> &'static str
-    ensures { result.now ≡ closing by_journeys }
-{
-    if by_journeys {
-        "\" data-word=\"--journeys\">\n"
-    } else {
-        "\">\n"
-    }
-}
-
 // Appends what stands before the verdict: the same whatever the answer is.
-fn write_front<W: Sink>(problem: &Problem, by_journeys: bool, out: &mut W) -> Result<(), Refused>
+fn write_front<W: Sink>(problem: &Problem, out: &mut W) -> Result<(), Refused>
     ensures { Pushes W.held W.has_failed
-        (Adds (front_text problem.now.diagram problem.now.length by_journeys)) out.old out.new result }
+        (Adds (front_text problem.now.diagram problem.now.length)) out.old out.new result }
 {
     let placement = problem.diagram.write();
     let length = problem.length.write();
@@ -48,7 +37,7 @@ fn write_front<W: Sink>(problem: &Problem, by_journeys: bool, out: &mut W) -> Re
     write_escaped(placement.as_str(), out)?;
     write_around("\" data-length=\"", length, "\" data-plies=\"", out)?;
     write_number("", u64::from(problem.length.plies()), out)?;
-    out.push(closing(by_journeys).as_bytes())?;
+    out.push(b"\">\n")?;
     out.push(MEN.as_bytes())?;
     write_around("<h1>A proof game in ", length, " moves</h1>\n", out)?;
     write_board(&problem.diagram, out)
@@ -193,17 +182,16 @@ fn write_answer<W: Sink>(problem: &Problem, answer: &Answer, out: &mut W) -> Res
     out.push(CHECKED.as_bytes())
 }
 
-// Appends all that stands before the trees, on a check that went by journeys or by the other bounds alone.
+// Appends all that stands before the trees.
 pub(crate) fn write_head<W: Sink>(
     problem: &Problem,
-    by_journeys: bool,
     answer: &Answer,
     out: &mut W,
 ) -> Result<(), Refused>
     ensures { Pushes W.held W.has_failed
-        (AddsSome (IsHead problem.now.diagram problem.now.length by_journeys answer.now)) out.old out.new result }
+        (AddsSome (IsHead problem.now.diagram problem.now.length answer.now)) out.old out.new result }
 {
-    write_front(problem, by_journeys, out)?;
+    write_front(problem, out)?;
     write_answer(problem, answer, out)?;
     write_games(&answer.games, out)
 }

@@ -1,7 +1,7 @@
 //! The part of the page that shows the proof: what stands there, and the script that fills it. The script plays the
 //! moves that it is given on a board and never judges whether a move is legal.
 
-// What the script fills, and below it the command that checks the certificate, up to the word that this takes.
+// What the script fills, and below it the command that checks the certificate.
 pub(crate) const VIEWER: &str = "<h2>The proof</h2>
 <p class='hint'>Choose a move to go on. The arrow keys do the same: left is back, right goes on along the chosen \
 game, or else by the first move that leads on. The address of this page keeps the moves so far, so a line can be \
@@ -112,12 +112,17 @@ pub(crate) const SCRIPT: &str = "'use strict';
 
   function after(sans) { return sans.length ? words.after + movetext(sans, ' ') : words.start; }
 
+  // The bound with a code. Behind that by journeys stand those by tolls, one for each tariff.
+  function boundOf(code) {
+    return BOUNDS[code] || (code >= BOUNDS.length && code < BOUNDS.length + +words.tariffs ? 'tolls' : 'other bounds');
+  }
+
   // How a child counts at a node with so many plies left.
   function kindOf(entry, left) {
     if (entry.mark === '@') return 'reference';
     if (entry.mark === '*') return 'lead';
     if (entry.mark === ',') return 'off';
-    if (entry.mark === ':') return BOUNDS[parseInt(entry.rest, 10)] || 'other bounds';
+    if (entry.mark === ':') return boundOf(parseInt(entry.rest, 10));
     if (left > 2 || entry.node.games > 0) return 'lead';
     return BOUNDS[entry.node.code] || 'played out';
   }
@@ -247,8 +252,7 @@ pub(crate) const SCRIPT: &str = "'use strict';
   // ---- What is shown.
 
   function question() {
-    var said = \"pg why CERT '\" + (path.length ? movetext(sansOf(path), ' ') : '-') + \"'\";
-    return problem.word ? said + ' ' + problem.word : said;
+    return \"pg why CERT '\" + (path.length ? movetext(sansOf(path), ' ') : '-') + \"'\";
   }
 
   function showLine() {
@@ -290,7 +294,7 @@ pub(crate) const SCRIPT: &str = "'use strict';
     if (!entry || !entry.node || !entry.node.isTold) return;
     kinds = kindsOf(children(entry.node), left);
     if (kinds.lead) showRows(kinds.lead, left, moves);
-    BOUNDS.concat('other bounds').forEach(function (kind) {
+    BOUNDS.concat('tolls', 'other bounds').forEach(function (kind) {
       if (kinds[kind]) showFolded(kinds[kind].length + ' excluded by ' + kind, kinds[kind], left, moves);
     });
     if (kinds.reference) showFolded(kinds.reference.length + ' the same as after other moves', \

@@ -65,10 +65,10 @@ after-e4 | 0.5 | 9 | 2 after-e4 0.5 | 01 => data-start=\"at the start\" data-aft
 after-e4 | 0.5 | 9 | 2 after-e4 0.5 | 01 => data-excluded=\"excluded: \"
 after-e4 | 0.5 | 9 | 2 after-e4 0.5 | 01 => Who wants to be sure runs <code>pg answer CERT</code>.
 rnbqkbnr/pppppppp/8/8/8/2N2N2/PPPPPPPP/R1BQKB1R | 0.5 | 9 | 2 rnbqkbnr/pppppppp/8/8/8/2N2N2/PPPPPPPP/R1BQKB1R 0.5 | \
-    0205 | journeys => data-length=\"0.5\" data-plies=\"1\" data-word=\"--journeys\">
+    0205 | journeys => data-length=\"0.5\" data-plies=\"1\">
 rnbqkbnr/pppppppp/8/8/8/2N2N2/PPPPPPPP/R1BQKB1R | 0.5 | 9 | 2 rnbqkbnr/pppppppp/8/8/8/2N2N2/PPPPPPPP/R1BQKB1R 0.5 | \
-    0205 | journeys => Who wants to be sure runs <code>pg answer CERT --journeys</code>.
-after-e4 | 0.5 | 9 | 2 after-e4 0.5 | 01 => data-untold=\"expanded, with no game below\"
+    0205 | journeys => Who wants to be sure runs <code>pg answer CERT</code>.
+after-e4 | 0.5 | 9 | 2 after-e4 0.5 | 01 => data-untold=\"expanded, with no game below\" data-tariffs=\"0\"></div>
 array | 0.0 | 9 | 1 array 0.0 |  => <li><span data-moves=\"\">-</span></li>";
 
 // A page says this.
