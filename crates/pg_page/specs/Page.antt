@@ -11,15 +11,15 @@ use Rattle.pg_page.specs.Heading.{IsHead}
 use Rattle.pg_page.specs.declared.fault.PageFault.{PageFault}
 use Rattle.pg_page.specs.declared.fault.PageFault.TheVariants.{Answer, Memory, Write}
 
--- a text that begins with the head of a page of this answer is appended
-abbrev pub AddsHead : Placement → ℕ → Answered → Option (List ℕ) → Option (List ℕ) → Type 0
-AddsHead d n a before after =
-    (head : List ℕ) × (rest : List ℕ) × IsHead d n a head × Appends before after (head ++ rest)
+-- a text that begins with the head of a page of this answer is appended, with a title and an author
+abbrev pub AddsHead : Placement → ℕ → List ℕ → List ℕ → Answered → Option (List ℕ) → Option (List ℕ) → Type 0
+AddsHead d n title author a before after =
+    (head : List ℕ) × (rest : List ℕ) × IsHead d n title author a head × Appends before after (head ++ rest)
 
--- an answer is the exact one, the known bytes are a certificate for it, and its page is appended
-abbrev pub IsShown : Terms → Placement → ℕ → Option (List ℕ) → Option (List ℕ) → Type 0
-IsShown t d n before after =
-    (a : Answered) × IsExactAnswer d n a.games × IsProvedBy t d n a × AddsHead d n a before after
+-- an answer is the exact one, the known bytes are a certificate for it, and its page is appended, with a title and an author
+abbrev pub IsShown : Terms → Placement → ℕ → List ℕ → List ℕ → Option (List ℕ) → Option (List ℕ) → Type 0
+IsShown t d n title author before after =
+    (a : Answered) × IsExactAnswer d n a.games × IsProvedBy t d n a × AddsHead d n title author a before after
 
 -- why a page is not written to its end: there was no room for its lines, or the sink has failed
 abbrev pub IsShowingFault : Bool → PageFault → Type 0

@@ -8,7 +8,7 @@ ghost use Rattle.pg_checker.specs.Terms.{terms};
 ghost use Rattle.pg_page.specs.Page.{AddsHead, IsPageFault, IsShowingFault, IsShown};
 
 use crate::fault::PageFault;
-use crate::heading::write_head;
+use crate::heading::{Caption, write_head};
 use crate::log::Log;
 use crate::script::{SCRIPT, VIEWER};
 use crate::telling::tell;
@@ -80,11 +80,7 @@ fn write_end<W: Sink>(out: &mut W) -> Result<(), Refused>
 }
 
 // Appends what stands below the games.
-fn write_proof<W: Sink>(
-    problem: &Problem,
-    log: &Log<'_>,
-    out: &mut W,
-) -> Result<(), Refused>
+fn write_proof<W: Sink>(problem: &Problem, log: &Log<'_>, out: &mut W) -> Result<(), Refused>
     ensures { Pushes W.held W.has_failed Grows out.old out.new result }
 {
     write_viewer(log.tariffs.len(), out)?;
@@ -97,26 +93,29 @@ fn write_proof<W: Sink>(
 #[inline(never)]
 fn show<W: Sink>(
     problem: &Problem,
+    caption: &Caption<'_>,
     answer: &Answer,
     log: &Log<'_>,
     out: &mut W,
 ) -> Result<(), Refused>
     ensures { Pushes W.held W.has_failed
-        (AddsHead problem.now.diagram problem.now.length answer.now) out.old out.new result }
+        (AddsHead problem.now.diagram problem.now.length caption.now.title.now caption.now.author.now answer.now)
+        out.old out.new result }
 {
-    write_head(problem, answer, out)?;
+    write_head(problem, caption, answer, out)?;
     write_proof(problem, log, out)
 }
 
 // Writes the page of a problem and its answer, with what was met of the trees, where there was room for that.
 fn write_page<W: Sink>(
     problem: &Problem,
+    caption: &Caption<'_>,
     answer: &Answer,
     log: &mut Log<'_>,
     out: &mut W,
 ) -> Result<(), PageFault>
-    ensures head { OnOk result (AddsHead problem.now.diagram problem.now.length answer.now
-        (W.held out.old) (W.held out.new)) }
+    ensures head { OnOk result (AddsHead problem.now.diagram problem.now.length
+        caption.now.title.now caption.now.author.now answer.now (W.held out.old) (W.held out.new)) }
     ensures runs { OnOk result (W.has_failed out.new ≡ false) }
     ensures err { IfErr result (IsShowingFault (W.has_failed out.new)) }
 {
@@ -124,18 +123,19 @@ fn write_page<W: Sink>(
     if log.is_lost {
         return Err(PageFault::Memory);
     }
-    match show(problem, answer, log, out) {
+    match show(problem, caption, answer, log, out) {
         Ok(()) => Ok(()),
         Err(Refused) => Err(PageFault::Write),
     }
 }
 
 /// Checks a certificate that was opened, and writes a page that shows it: one file of HTML, which needs nothing else,
-/// with at most `nodes` expanded nodes of the tree of the stated length, and of the shorter ones together. `tariffs` are
+/// with the title and the author of `caption`, and at most `nodes` expanded nodes of the tree of the stated length, and of the shorter ones together. `tariffs` are
 /// those of the bounds with the codes from `Tolls::FIRST_CODE` on, in their order, for the words of their cuts.
 /// docs/FORMATS.md says what stands there. Ok means that some list of games is the exact answer to the problem of the
-/// header, that the certificate proves it, and that the page begins with the head of just that answer: the diagram,
-/// the verdict, what was checked, and each game. No clause speaks of what follows. Nothing is written before the check has said yes.
+/// header, that the certificate proves it, and that the page begins with the head of just that answer: the caption, the
+/// diagram, the verdict, what was checked, and each game. No clause speaks of what follows. Nothing is written before
+/// the check has said yes.
 ///
 /// The certificate is read once: `source` is the one that it was opened from, as that call left it. The games, the
 /// named nodes, the lines of the trees and the tables of tariffs take their room from `alloc`; nothing else takes
@@ -147,6 +147,7 @@ fn write_page<W: Sink>(
 pub fn page<R: Source, W: Sink>(
     alloc: Global,
     opened: &mut Opened,
+    caption: &Caption<'_>,
     nodes: u64,
     tariffs: &[Tariff],
     bounds: &[Box<dyn Bound>],
@@ -160,7 +161,7 @@ pub fn page<R: Source, W: Sink>(
         opened.old.diagram opened.old.plies) }
     ensures head { OnOk result (IsShown
         (terms (rules_by code_of excluded bounds.now) max_records max_named (bytes_of opened.old (R.left source.old)))
-        opened.old.diagram opened.old.plies (W.held out.old) (W.held out.new)) }
+        opened.old.diagram opened.old.plies caption.now.title.now caption.now.author.now (W.held out.old) (W.held out.new)) }
     ensures silent { (W.held out.new ≡ W.held out.old) ⊎ HasAnswer
         (terms (rules_by code_of excluded bounds.now) max_records max_named (bytes_of opened.old (R.left source.old)))
         opened.old.diagram opened.old.plies }
@@ -183,7 +184,7 @@ pub fn page<R: Source, W: Sink>(
         max_named,
     ) {
         Ok(answer) => {
-            match write_page(&problem, &answer, &mut log, out) {
+            match write_page(&problem, caption, &answer, &mut log, out) {
                 Ok(()) => Ok(()),
                 Err(fault) => Err(fault),
             }

@@ -33,6 +33,10 @@ fn cuts_by_tolls_are_told(rt: HostRuntime) {
     let answer = page(
         rt.alloc(),
         &mut opened,
+        &Caption {
+            title: "",
+            author: "",
+        },
         9,
         &tariffs,
         &bounds,

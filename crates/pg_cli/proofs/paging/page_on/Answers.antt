@@ -13,7 +13,7 @@ returns-in-Ok g c =
     let h = c.in-Ok.ensures.right in
     let t = terms (rules_by (λ b. (goal.Bound-dyn g (b.vtable, b.value)).code_of b.value) (λ b. (goal.Bound-dyn g (b.vtable, b.value)).excluded b.value) c.args.bounds.now) c.records_of-records.result 4194304 (bytes_of c.args.opened.now (g.S.Source.left c.args.source.now)) in
     record {
-      head = on_ok c.finished.result _ _ c.finished.ensures.handed (λ kept. (c.records_of-records.result, c.records_of-records.ensures, page_kept t c.args.opened.now.diagram c.args.opened.now.plies (held_by g.W.Sink.held c.args.out.now) (held_by g.W.Sink.held c.page.new.out) (g.W.Sink.held (sink_of c.finished.new.out)) c.in-Ok.ensures.head kept));
+      head = on_ok c.finished.result _ _ c.finished.ensures.handed (λ kept. (c.records_of-records.result, c.records_of-records.ensures, page_kept t c.args.opened.now.diagram c.args.opened.now.plies _ _ _ _ (held_by g.W.Sink.held c.args.out.now) (held_by g.W.Sink.held c.page.new.out) (g.W.Sink.held (sink_of c.finished.new.out)) c.text_of.ensures c.text_of-2.ensures c.in-Ok.ensures.head kept));
       zero = c.finished.ensures.ok;
       silent = inr (h.0.games, h.1);
       err = unwritten c.finished.result _ _ c.finished.ensures.err (λ failed. (c.records_of-records.result, c.records_of-records.ensures, (Write, refl, (h, failed))));

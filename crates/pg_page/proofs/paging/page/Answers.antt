@@ -20,9 +20,9 @@ returns-in-Ok-write_page-clause-head g c = (
   c.in-Ok.answer,
   c.in-Ok.ensures.headline,
   c.in-Ok.ensures.accepted,
-  subst (λ (d : Placement). AddsHead d c.args.opened.now.plies c.in-Ok.answer
+  subst (λ (d : Placement). AddsHead d c.args.opened.now.plies c.args.caption.now.title.now c.args.caption.now.author.now c.in-Ok.answer
       (g.W.Sink.held c.args.out.now) (g.W.Sink.held c.write_page.new.out)) c.problem-problem.ensures.diagram
-      (subst (λ (n : ℕ). AddsHead c.problem-problem.result.diagram n c.in-Ok.answer
+      (subst (λ (n : ℕ). AddsHead c.problem-problem.result.diagram n c.args.caption.now.title.now c.args.caption.now.author.now c.in-Ok.answer
       (g.W.Sink.held c.args.out.now) (g.W.Sink.held c.write_page.new.out)) c.problem-problem.ensures.length
       c.in-Ok-write_page.ensures.head),
 )
