@@ -9,7 +9,7 @@ use crate::texts::put_line;
 use pg_certificate::format::MOST_NAMED;
 use pg_certificate::{FromRead, Header, Record, RecordReader, RecordWriter};
 use pg_guide::why;
-use pg_page::page;
+use pg_page::{Caption, page};
 use pg_position::Move;
 use pg_report::{
     Bound, Captures, Games, Opened, PawnFiles, Promotions, Source, ToWrite, open, run_check,
@@ -125,9 +125,14 @@ fn show_sent(
     let mut source = FromRead::new(sent.bytes.as_slice());
     let mut opened = opened_from(&mut source)?;
     let mut out = ToWrite::new(Vec::new(alloc));
+    let caption = Caption {
+        title: "",
+        author: "",
+    };
     let answer = page(
         alloc,
         &mut opened,
+        &caption,
         PAGE_NODES,
         &[],
         bounds,

@@ -1,5 +1,5 @@
 -- What a run appended to a buffer stands in the sink below it, once all of it is handed on.
-use Rattle.std.proofs.Common.{◌⊎◌, inl, inr, ◌++◌, ℕ, Bool, List, codes}
+use Rattle.std.proofs.Common.{◌≡◌, subst, ◌⊎◌, inl, inr, ◌++◌, ℕ, List, codes}
 use Rattle.std.proofs.KnownBytes.{Appends-kept}
 use Rattle.std.specs.Prelude.{Option}
 use Rattle.std.specs.Io.KnownBytes.{Keeps, append_known}
@@ -27,8 +27,10 @@ pub right_kept : (a b c : Option (List ℕ)) → AddsRight a b → Keeps b c →
 unfolding AddsRight
 right_kept a b c (lines, adds) k = (lines, Appends-kept a b c (lines ++ codes "the certificate is right\n") adds k)
 
-pub page_kept : (t : Terms) (d : Placement) (n : ℕ) (j : Bool) (a b c : Option (List ℕ)) → IsShown t d n j a b → Keeps b c → IsShown t d n j a c
-page_kept t d n j a b c (games, exact, proved, (head, rest, is, adds)) k =
+pub page_kept : (t : Terms) (d : Placement) (n : ℕ) (x y title author : List ℕ) (a b c : Option (List ℕ)) → x ≡ title → y ≡ author → IsShown t d n x y a b → Keeps b c → IsShown t d n title author a c
+page_kept t d n x y title author a b c is_title is_author shown k =
+    let titled : IsShown t d n title y a b = subst (λ (s : List ℕ). IsShown t d n s y a b) is_title shown in
+    let (games, exact, proved, (head, rest, is, adds)) = subst (λ (s : List ℕ). IsShown t d n title s a b) is_author titled in
     (games, exact, proved, (head, rest, is, Appends-kept a b c (head ++ rest) adds k))
 
 -- with an answer a list is the exact one

@@ -1,5 +1,5 @@
 -- The texts of the games make the list, and the parts make the head. Leads to the contract of `page`.
-use Rattle.std.proofs.Common.{◌≡◌, ◌≢◌, ◌∙◌, ◌↔◌, ℕ, Bool, suc, ◌+◌, ◌-◌, ◌<◌, ◌≤◌, List, [], ◌∷◌, ◌++◌, Option, Some, length, get_or, take, drop, refl, sym, ap, subst, arith, append_assoc, append-nil, length-append, add-one}
+use Rattle.std.proofs.Common.{◌≡◌, ◌≢◌, ◌∙◌, ◌↔◌, ℕ, suc, ◌+◌, ◌-◌, ◌<◌, ◌≤◌, List, [], ◌∷◌, ◌++◌, Option, Some, length, get_or, take, drop, refl, sym, ap, subst, arith, append_assoc, append-nil, length-append, add-one}
 use Rattle.std.proofs.KnownBytes.{Appends-nil, Appends-trans}
 use Rattle.std.proofs.Math.Seq.{drop-cons}
 use Rattle.std.proofs.lemmas.List.{take_more, take_all, drop_all, nil_from_length}
@@ -10,6 +10,8 @@ use Rattle.std.specs.Io.KnownBytes.{Appends}
 use Rattle.pg_board.specs.Placement.{Placement, get}
 use Rattle.pg_board.specs.Squares.{file, rank}
 use Rattle.pg_board.specs.declared.man.Man.{Man}
+use Rattle.pg_board.specs.declared.man.Color.TheVariants.{White, Black}
+use Rattle.pg_captures.specs.Counting.{men, any_man}
 use Rattle.pg_certificate.specs.Pushing.{AddsSome, Grows}
 use Rattle.pg_checker.specs.declared.certify.Answer.{Answer}
 use Rattle.pg_fen.specs.Lengths.{length_text}
@@ -22,12 +24,12 @@ use Rattle.pg_position.specs.Game.{IsGame}
 use Rattle.pg_position.specs.Step.{Legal}
 use Rattle.pg_san.specs.Games.{IsFromArray}
 use Rattle.pg_texts.specs.Movetext.{AddsLongest, IsMovetext}
-use Rattle.pg_page.specs.Board.{board_start, board_text, class_of, man_text, men_text, square_text}
+use Rattle.pg_page.specs.Board.{board_start, board_text, class_of, counts_text, man_text, men_text, square_text}
 use Rattle.pg_page.specs.Escaping.{escaped}
 use Rattle.pg_page.specs.Heading.{AreGameItems, AreMoveTexts, IsGameItem, IsGameList, IsHead}
-use Rattle.pg_page.specs.Heading.{answer_text, asked, checked_text, closing, end_words, front_text, headed, titled, verdict_words}
+use Rattle.pg_page.specs.Heading.{answer_text, asked, caption_text, checked_text, end_words, front_text, headed_text}
+use Rattle.pg_page.specs.Heading.{list_end, list_start, named_text, verdict_words}
 use Rattle.pg_page.specs.declared.heading.TheConstants.{CHECKED}
-use Rattle.pg_page.specs.declared.style.TheConstants.{BEGIN, MEN}
 use Rattle.pg_page.specs.Lines.{IsMoveText}
 use Rattle.pg_page.specs.Page.{AddsHead}
 
@@ -59,46 +61,66 @@ man_grows m s x y letter class a b c d e f is_class is_letter is_x is_y p q r t 
     let t2 : Appends d e y_said = subst (λ (n : ℕ). Appends d e (codes "\" y=\"" ++ decimal n)) is_y t in
     Appends-trans a b f class_said (letter_said ++ (x_said ++ (y_said ++ end))) p2 (Appends-trans b c f letter_said (x_said ++ (y_said ++ end)) q2 (Appends-trans c d f x_said (y_said ++ end) r2 (Appends-trans d e f y_said end t2 u)))
 
-pub board_grows : (d x : Placement) (placement : List ℕ) (a b c e f g : Option (List ℕ)) → x ≡ d → placement ≡ placement_text d
-    → Appends a b board_start → Appends b c (men_text x 64) → Appends c e (codes "</svg><figcaption><code>") → Appends e f (escaped placement) → Appends f g (codes "</code></figcaption></figure>\n")
-    → Appends a g (board_text d)
-board_grows d x placement a b c e f g is_board is_placement p q r t u =
+pub counts_grow : (d : Placement) (white black : ℕ) (a b c e : Option (List ℕ)) → white ≡ men White any_man d → black ≡ men Black any_man d
+    → Appends a b (codes "(" ++ decimal white) → Appends b c (codes "+" ++ decimal black) → Appends c e (codes ")")
+    → Appends a e (counts_text d)
+counts_grow d white black a b c e is_white is_black p q r =
+    let white_said = codes "(" ++ decimal (men White any_man d) in
+    let black_said = codes "+" ++ decimal (men Black any_man d) in
+    let p2 : Appends a b white_said = subst (λ (n : ℕ). Appends a b (codes "(" ++ decimal n)) is_white p in
+    let q2 : Appends b c black_said = subst (λ (n : ℕ). Appends b c (codes "+" ++ decimal n)) is_black q in
+    Appends-trans a b e white_said (black_said ++ codes ")") p2 (Appends-trans b c e black_said (codes ")") q2 r)
+
+pub board_grows : (d x : Placement) (placement : List ℕ) (a b c e f g h i : Option (List ℕ)) → x ≡ d → placement ≡ placement_text d
+    → Appends a b board_start → Appends b c (men_text x 64) → Appends c e (codes "</svg><figcaption>") → Appends e f (counts_text x) → Appends f g (codes "<br><code>") → Appends g h (escaped placement) → Appends h i (codes "</code></figcaption></figure>\n")
+    → Appends a i (board_text d)
+board_grows d x placement a b c e f g h i is_board is_placement p q r s t u v =
     let q2 : Appends b c (men_text d 64) = subst (λ (y : Placement). Appends b c (men_text y 64)) is_board q in
-    let t2 : Appends e f (escaped (placement_text d)) = given e f escaped placement (placement_text d) is_placement t in
-    let middle = codes "</svg><figcaption><code>" in
-    let last = codes "</code></figcaption></figure>\n" in
+    let s2 : Appends e f (counts_text d) = subst (λ (y : Placement). Appends e f (counts_text y)) is_board s in
+    let u2 : Appends g h (escaped (placement_text d)) = given g h escaped placement (placement_text d) is_placement u in
     let said = escaped (placement_text d) in
-    Appends-trans a b g board_start (men_text d 64 ++ (middle ++ (said ++ last))) p (Appends-trans b c g (men_text d 64) (middle ++ (said ++ last)) q2 (Appends-trans c e g middle (said ++ last) r (Appends-trans e f g said last t2 u)))
+    let x5 = said ++ codes "</code></figcaption></figure>\n" in
+    let x4 = codes "<br><code>" ++ x5 in
+    let x3 = counts_text d ++ x4 in
+    let x2 = codes "</svg><figcaption>" ++ x3 in
+    let h5 : Appends g i x5 = Appends-trans g h i said (codes "</code></figcaption></figure>\n") u2 v in
+    let h4 : Appends f i x4 = Appends-trans f g i (codes "<br><code>") x5 t h5 in
+    let h3 : Appends e i x3 = Appends-trans e f i (counts_text d) x4 s2 h4 in
+    let h2 : Appends c i x2 = Appends-trans c e i (codes "</svg><figcaption>") x3 r h3 in
+    Appends-trans a b i board_start (men_text d 64 ++ x2) p (Appends-trans b c i (men_text d 64) x2 q2 h2)
 
 -- ---- what stands before the games
-pub front_grows : (d : Placement) (plies n : ℕ) (by_journeys : Bool) (begin placement length close men : List ℕ) (a b c e f g h i j k : Option (List ℕ)) → begin ≡ BEGIN.now → placement ≡ placement_text d → length ≡ length_text plies → n ≡ plies → close ≡ closing by_journeys → men ≡ MEN.now
-    → Appends a b begin → Appends b c (titled length) → Appends c e (escaped placement) → Appends e f (asked length) → Appends f g (decimal n) → Appends g h close → Appends h i men → Appends i j (headed length) → Appends j k (board_text d)
-    → Appends a k (front_text d plies by_journeys)
-front_grows d plies n by_journeys begin placement length close men a b c e f g h i j k is_begin is_placement is_length is_plies is_close is_men p q r s t u v w x =
-    let p2 : Appends a b BEGIN.now = subst (λ (y : List ℕ). Appends a b y) is_begin p in
-    let v2 : Appends h i MEN.now = subst (λ (y : List ℕ). Appends h i y) is_men v in
+pub framed_grows : (begin given before text behind : List ℕ) (a b c e f : Option (List ℕ)) → begin ≡ given
+    → Appends a b begin → Appends b c before → Appends c e text → Appends e f behind
+    → Appends a f (given ++ (before ++ (text ++ behind)))
+framed_grows begin given before text behind a b c e f is_given p q r s =
+    let p2 : Appends a b given = subst (λ (y : List ℕ). Appends a b y) is_given p in
+    Appends-trans a b f given (before ++ (text ++ behind)) p2 (Appends-trans b c f before (text ++ behind) q (Appends-trans c e f text behind r s))
+
+pub front_grows : (d : Placement) (plies n : ℕ) (title author placement length : List ℕ) (a b c e f g h i : Option (List ℕ)) → placement ≡ placement_text d → length ≡ length_text plies → n ≡ plies
+    → Appends a b (named_text (caption_text title author length)) → Appends b c (escaped placement) → Appends c e (asked length) → Appends e f (decimal n) → Appends f g (codes "\">\n") → Appends g h (headed_text (caption_text title author length)) → Appends h i (board_text d)
+    → Appends a i (front_text d plies title author)
+front_grows d plies n title author placement length a b c e f g h i is_placement is_length is_plies p q r s t u v =
     let l = length_text plies in
     let said = escaped (placement_text d) in
-    let end = closing by_journeys in
-    let q2 : Appends b c (titled l) = given b c titled length l is_length q in
-    let r2 : Appends c e said = given c e escaped placement (placement_text d) is_placement r in
-    let s2 : Appends e f (asked l) = given e f asked length l is_length s in
-    let t2 : Appends f g (decimal plies) = subst (λ (y : ℕ). Appends f g (decimal y)) is_plies t in
-    let u2 : Appends g h end = subst (λ (y : List ℕ). Appends g h y) is_close u in
-    let w2 : Appends i j (headed l) = given i j headed length l is_length w in
-    let x8 = headed l ++ board_text d in
-    let x7 = MEN.now ++ x8 in
-    let x6 = end ++ x7 in
-    let x5 = decimal plies ++ x6 in
-    let x4 = asked l ++ x5 in
-    let x3 = said ++ x4 in
-    let h8 : Appends i k x8 = Appends-trans i j k (headed l) (board_text d) w2 x in
-    let h7 : Appends h k x7 = Appends-trans h i k MEN.now x8 v2 h8 in
-    let h6 : Appends g k x6 = Appends-trans g h k end x7 u2 h7 in
-    let h5 : Appends f k x5 = Appends-trans f g k (decimal plies) x6 t2 h6 in
-    let h4 : Appends e k x4 = Appends-trans e f k (asked l) x5 s2 h5 in
-    let h3 : Appends c k x3 = Appends-trans c e k said x4 r2 h4 in
-    Appends-trans a b k BEGIN.now (titled l ++ x3) p2 (Appends-trans b c k (titled l) x3 q2 h3)
+    let end = codes "\">\n" in
+    let named = named_text (caption_text title author l) in
+    let headed = headed_text (caption_text title author l) in
+    let p2 : Appends a b named = given a b (λ (y : List ℕ). named_text (caption_text title author y)) length l is_length p in
+    let q2 : Appends b c said = given b c escaped placement (placement_text d) is_placement q in
+    let r2 : Appends c e (asked l) = given c e asked length l is_length r in
+    let s2 : Appends e f (decimal plies) = subst (λ (y : ℕ). Appends e f (decimal y)) is_plies s in
+    let u2 : Appends g h headed = given g h (λ (y : List ℕ). headed_text (caption_text title author y)) length l is_length u in
+    let x6 = headed ++ board_text d in
+    let x5 = end ++ x6 in
+    let x4 = decimal plies ++ x5 in
+    let x3 = asked l ++ x4 in
+    let x2 = said ++ x3 in
+    let h6 : Appends g i x6 = Appends-trans g h i headed (board_text d) u2 v in
+    let h5 : Appends f i x5 = Appends-trans f g i end x6 t h6 in
+    let h4 : Appends e i x4 = Appends-trans e f i (decimal plies) x5 s2 h5 in
+    let h3 : Appends c i x3 = Appends-trans c e i (asked l) x4 r2 h4 in
+    Appends-trans a b i named x2 p2 (Appends-trans b c i said x3 q2 h3)
 
 pub cooked_grows : (count : ℕ) (a b c : Option (List ℕ)) → count ≢ 0 → count ≢ 1 → Appends a b (codes "<strong>Cooked.</strong> " ++ decimal count) → Appends b c (codes " games of ") → Appends a c (verdict_words count)
 cooked_grows count a b c some more p q =
@@ -227,21 +249,29 @@ one_item_more games n g a b c low at (text, items, grows) (item, is, more) =
 pub all_items : (games : List (List Move)) (n : ℕ) (a b : Option (List ℕ)) → length games ≤ n → AddsSome (AreGameItems (take n games)) a b → AddsSome (AreGameItems games) a b
 all_items games n a b l h = subst (λ (x : List (List Move)). AddsSome (AreGameItems x) a b) (take_all n games l) h
 
-pub list_grows : (games : List (List Move)) (a b c d : Option (List ℕ)) → Appends a b (codes "<h2>The games</h2>\n<ol id=\"games\">\n") → AddsSome (AreGameItems games) b c → Appends c d (codes "</ol>\n") → AddsSome (IsGameList games) a d
-list_grows games a b c d p (items, are, q) r = (
-  codes "<h2>The games</h2>\n<ol id=\"games\">\n" ++ (items ++ codes "</ol>\n"),
-  (items, are, refl),
-  Appends-trans a b d (codes "<h2>The games</h2>\n<ol id=\"games\">\n") (items ++ codes "</ol>\n") p (Appends-trans b c d items (codes "</ol>\n") q r),
-)
+pub folded_grows : (count : ℕ) (a b c : Option (List ℕ)) → 20 < count → Appends a b (codes "<h2>The games</h2>\n<details><summary>" ++ decimal count) → Appends b c (codes " games</summary>\n<ol id=\"games\">\n") → Appends a c (list_start count)
+folded_grows count a b c many p q =
+    let e : list_start count ≡ (codes "<h2>The games</h2>\n<details><summary>" ++ decimal count) ++ codes " games</summary>\n<ol id=\"games\">\n" = grind (arith, nat_tests) in
+    subst (λ (t : List ℕ). Appends a c t) (sym e) (Appends-trans a b c (codes "<h2>The games</h2>\n<details><summary>" ++ decimal count) (codes " games</summary>\n<ol id=\"games\">\n") p q)
+
+pub list_grows : (games : List (List Move)) (n : ℕ) (end : List ℕ) (a b c d : Option (List ℕ)) → n ≡ length games → end ≡ list_end n → Appends a b (list_start n) → AddsSome (AreGameItems games) b c → Appends c d end → AddsSome (IsGameList games) a d
+list_grows games n end a b c d is_count is_end p (items, are, q) r =
+    let m = length games in
+    let p2 : Appends a b (list_start m) = subst (λ (k : ℕ). Appends a b (list_start k)) is_count p in
+    let r2 : Appends c d (list_end m) = subst (λ (k : ℕ). Appends c d (list_end k)) is_count (subst (λ (y : List ℕ). Appends c d y) is_end r) in (
+      list_start m ++ (items ++ list_end m),
+      (items, are, refl),
+      Appends-trans a b d (list_start m) (items ++ list_end m) p2 (Appends-trans b c d items (list_end m) q r2),
+    )
 
 -- ---- the head, and the page that begins with it
-pub head_grows : (d : Placement) (plies : ℕ) (by_journeys : Bool) (x : Answer) (a b c e : Option (List ℕ)) → Appends a b (front_text d plies by_journeys) → Appends b c (answer_text plies x) → AddsSome (IsGameList x.games) c e → AddsSome (IsHead d plies by_journeys x) a e
-head_grows d plies by_journeys x a b c e p q (games, are, r) = (
-  front_text d plies by_journeys ++ (answer_text plies x ++ games),
+pub head_grows : (d : Placement) (plies : ℕ) (title author : List ℕ) (x : Answer) (a b c e : Option (List ℕ)) → Appends a b (front_text d plies title author) → Appends b c (answer_text plies x) → AddsSome (IsGameList x.games) c e → AddsSome (IsHead d plies title author x) a e
+head_grows d plies title author x a b c e p q (games, are, r) = (
+  front_text d plies title author ++ (answer_text plies x ++ games),
   record { games = games; are_games = are; is = refl },
-  Appends-trans a b e (front_text d plies by_journeys) (answer_text plies x ++ games) p (Appends-trans b c e (answer_text plies x) games q r),
+  Appends-trans a b e (front_text d plies title author) (answer_text plies x ++ games) p (Appends-trans b c e (answer_text plies x) games q r),
 )
 
-pub page_grows : (d : Placement) (plies : ℕ) (by_journeys : Bool) (x : Answer) (a b c : Option (List ℕ)) → AddsSome (IsHead d plies by_journeys x) a b → Grows b c → AddsHead d plies by_journeys x a c
+pub page_grows : (d : Placement) (plies : ℕ) (title author : List ℕ) (x : Answer) (a b c : Option (List ℕ)) → AddsSome (IsHead d plies title author x) a b → Grows b c → AddsHead d plies title author x a c
 unfolding Grows
-page_grows d plies by_journeys x a b c (head, is, p) (rest, q) = (head, rest, is, Appends-trans a b c head rest p q)
+page_grows d plies title author x a b c (head, is, p) (rest, q) = (head, rest, is, Appends-trans a b c head rest p q)

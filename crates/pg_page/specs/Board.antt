@@ -5,6 +5,7 @@ use Rattle.pg_board.specs.declared.man.Color.{Color}
 use Rattle.pg_board.specs.declared.man.Color.TheVariants.{White, Black}
 use Rattle.pg_board.specs.Placement.{Placement, get}
 use Rattle.pg_board.specs.Squares.{file, rank}
+use Rattle.pg_captures.specs.Counting.{men, any_man}
 use Rattle.pg_fen.specs.Letters.{letter_of_kind}
 use Rattle.pg_fen.specs.PlacementText.{placement_text}
 use Rattle.pg_page.specs.Escaping.{escaped}
@@ -37,9 +38,16 @@ abbrev pub board_start : List ℕ
 board_start =
     codes "<figure><svg class=\"board\" viewBox=\"-.5 0 8.5 8.5\" role=\"img\" aria-label=\"The diagram\"><use href=\"#squares\"/>"
 
--- a board with its men, and below it the placement
+-- how many men White and Black have, as in (15+14)
+abbrev pub counts_text : Placement → List ℕ
+counts_text b =
+    (codes "(" ++ decimal (men White any_man b)) ++ ((codes "+" ++ decimal (men Black any_man b)) ++ codes ")")
+
+-- a board with its men, and below it how many they are and the placement
 abbrev pub board_text : Placement → List ℕ
 board_text b =
     board_start
     ++ (men_text b 64
-    ++ (codes "</svg><figcaption><code>" ++ (escaped (placement_text b) ++ codes "</code></figcaption></figure>\n")))
+    ++ (codes "</svg><figcaption>"
+    ++ (counts_text b
+    ++ (codes "<br><code>" ++ (escaped (placement_text b) ++ codes "</code></figcaption></figure>\n")))))

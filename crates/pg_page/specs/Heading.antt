@@ -1,5 +1,5 @@
 -- What stands on a page above the trees: the title, the diagram, the verdict, what was checked, and the games.
-use Rattle.std.specs.Prelude.{◌≡◌, ℕ, Bool, true, false, ◌==◌, List, [], ◌∷◌, ◌++◌, codes, decimal, length, if◌then◌else◌, nat_le}
+use Rattle.std.specs.Prelude.{◌≡◌, ℕ, ◌==◌, List, [], ◌∷◌, ◌++◌, codes, decimal, length, if◌then◌else◌, nat_le}
 use Rattle.pg_board.specs.Placement.{Placement}
 use Rattle.pg_position.specs.declared.state.State.{State}
 use Rattle.pg_position.specs.declared.moves.Move.{Move}
@@ -15,32 +15,40 @@ use Rattle.pg_page.specs.Lines.{IsMoveText}
 use Rattle.pg_page.specs.declared.style.TheConstants.{BEGIN, MEN}
 use Rattle.pg_page.specs.declared.heading.TheConstants.{CHECKED}
 
--- the title, with a length, up to the problem's diagram
-abbrev pub titled : List ℕ → List ℕ
-titled length = codes "<title>A proof game in " ++ (length ++ codes " moves</title>\n</head>\n<body data-diagram=\"")
+-- a title, or that of a length where it is empty
+abbrev pub title_text : List ℕ → List ℕ → List ℕ
+title_text title moves =
+    if length title == 0 then codes "A proof game in " ++ (moves ++ codes " moves") else escaped title
 
--- the length behind it, up to the plies
+-- by whom a problem is, where that is said
+abbrev pub author_text : List ℕ → List ℕ
+author_text author = if length author == 0 then [] else codes " by " ++ escaped author
+
+-- both: the caption of a problem of this length
+abbrev pub caption_text : List ℕ → List ℕ → List ℕ → List ℕ
+caption_text title author moves = title_text title moves ++ author_text author
+
+-- the length behind the diagram, up to the plies
 abbrev pub asked : List ℕ → List ℕ
 asked length = codes "\" data-length=\"" ++ (length ++ codes "\" data-plies=\"")
 
--- and behind these: where the check went by journeys, the word that it takes
-abbrev pub closing : Bool → List ℕ
-closing true = codes "\" data-word=\"--journeys\">\n"
-closing false = codes "\">\n"
+-- from the style to the problem's diagram: the title of the document
+abbrev pub named_text : List ℕ → List ℕ
+named_text caption = BEGIN.now ++ (codes "<title>" ++ (caption ++ codes "</title>\n</head>\n<body data-diagram=\""))
 
--- the heading
-abbrev pub headed : List ℕ → List ℕ
-headed length = codes "<h1>A proof game in " ++ (length ++ codes " moves</h1>\n")
+-- the drawings of the men, and the heading
+abbrev pub headed_text : List ℕ → List ℕ
+headed_text caption = MEN.now ++ (codes "<h1>" ++ (caption ++ codes "</h1>\n"))
 
 -- what stands before the verdict: the style, the title, the problem for the script, the drawings of the men, the heading
 -- and the diagram
-abbrev pub front_text : Placement → ℕ → Bool → List ℕ
-front_text d plies by_journeys =
-    BEGIN.now
-    ++ (titled (length_text plies)
+abbrev pub front_text : Placement → ℕ → List ℕ → List ℕ → List ℕ
+front_text d plies title author =
+    named_text (caption_text title author (length_text plies))
     ++ (escaped (placement_text d)
     ++ (asked (length_text plies)
-    ++ (decimal plies ++ (closing by_journeys ++ (MEN.now ++ (headed (length_text plies) ++ board_text d)))))))
+    ++ (decimal plies
+    ++ (codes "\">\n" ++ (headed_text (caption_text title author (length_text plies)) ++ board_text d)))))
 
 -- the verdict on so many games
 abbrev pub verdict_words : ℕ → List ℕ
@@ -89,14 +97,23 @@ AreGameItems [] text = text ≡ []
 AreGameItems (game ∷ games) text =
     (first : List ℕ) × (rest : List ℕ) × IsGameItem game first × AreGameItems games rest × (text ≡ first ++ rest)
 
+-- what stands before so many games, and behind them: more than twenty are folded
+abbrev pub list_start : ℕ → List ℕ
+list_start count =
+    if nat_le count 20 then codes "<h2>The games</h2>\n<ol id=\"games\">\n"
+    else ((codes "<h2>The games</h2>\n<details><summary>" ++ decimal count) ++ codes " games</summary>\n<ol id=\"games\">\n")
+
+abbrev pub list_end : ℕ → List ℕ
+list_end count = if nat_le count 20 then codes "</ol>\n" else codes "</ol>\n</details>\n"
+
 -- the list of the games
 abbrev pub IsGameList : List (List Move) → List ℕ → Type 0
 IsGameList games text =
     (items : List ℕ) × AreGameItems games items
-    × (text ≡ codes "<h2>The games</h2>\n<ol id=\"games\">\n" ++ (items ++ codes "</ol>\n"))
+    × (text ≡ list_start (length games) ++ (items ++ list_end (length games)))
 
--- the head of a page of an answer to a diagram and so many plies, by a check that went by journeys or did not
-pub record IsHead (d : Placement) (plies : ℕ) (by_journeys : Bool) (a : Answer) (text : List ℕ) : Type 0 where
+-- the head of a page of an answer to a diagram and so many plies, with a title and an author
+pub record IsHead (d : Placement) (plies : ℕ) (title author : List ℕ) (a : Answer) (text : List ℕ) : Type 0 where
   pub games : List ℕ
   pub are_games : IsGameList a.games games
-  pub is : text ≡ front_text d plies by_journeys ++ (answer_text plies a ++ games)
+  pub is : text ≡ front_text d plies title author ++ (answer_text plies a ++ games)

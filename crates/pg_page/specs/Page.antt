@@ -1,8 +1,7 @@
 -- What a page says of the certificate, and what its refusals say.
-use Rattle.std.specs.Prelude.{◌≡◌, ℕ, Bool, true, List, ◌++◌, Option, is_some}
+use Rattle.std.specs.Prelude.{◌≡◌, ℕ, Bool, true, List, ◌++◌, Option}
 use Rattle.std.specs.Io.KnownBytes.{Appends}
 use Rattle.pg_board.specs.Placement.{Placement}
-use Rattle.pg_captures.specs.Lists.{first_of}
 pub use Rattle.pg_checker.specs.Answering.{Failures, HasAnswer, failures}
 use Rattle.pg_checker.specs.Answer.{IsExactAnswer}
 use Rattle.pg_checker.specs.Answering.{IsProvedBy, IsUnanswered}
@@ -12,19 +11,15 @@ use Rattle.pg_page.specs.Heading.{IsHead}
 use Rattle.pg_page.specs.declared.fault.PageFault.{PageFault}
 use Rattle.pg_page.specs.declared.fault.PageFault.TheVariants.{Answer, Memory, Write}
 
--- whether the bound by journeys is among these: its code is 5
-abbrev pub has_journeys : {B : Type 0} → (B → ℕ) → List B → Bool
-has_journeys code_of bounds = is_some (first_of code_of 5 bounds)
+-- a text that begins with the head of a page of this answer is appended, with a title and an author
+abbrev pub AddsHead : Placement → ℕ → List ℕ → List ℕ → Answered → Option (List ℕ) → Option (List ℕ) → Type 0
+AddsHead d n title author a before after =
+    (head : List ℕ) × (rest : List ℕ) × IsHead d n title author a head × Appends before after (head ++ rest)
 
--- a text that begins with the head of a page of this answer is appended
-abbrev pub AddsHead : Placement → ℕ → Bool → Answered → Option (List ℕ) → Option (List ℕ) → Type 0
-AddsHead d n by_journeys a before after =
-    (head : List ℕ) × (rest : List ℕ) × IsHead d n by_journeys a head × Appends before after (head ++ rest)
-
--- an answer is the exact one, the known bytes are a certificate for it, and its page is appended
-abbrev pub IsShown : Terms → Placement → ℕ → Bool → Option (List ℕ) → Option (List ℕ) → Type 0
-IsShown t d n by_journeys before after =
-    (a : Answered) × IsExactAnswer d n a.games × IsProvedBy t d n a × AddsHead d n by_journeys a before after
+-- an answer is the exact one, the known bytes are a certificate for it, and its page is appended, with a title and an author
+abbrev pub IsShown : Terms → Placement → ℕ → List ℕ → List ℕ → Option (List ℕ) → Option (List ℕ) → Type 0
+IsShown t d n title author before after =
+    (a : Answered) × IsExactAnswer d n a.games × IsProvedBy t d n a × AddsHead d n title author a before after
 
 -- why a page is not written to its end: there was no room for its lines, or the sink has failed
 abbrev pub IsShowingFault : Bool → PageFault → Type 0

@@ -1,10 +1,11 @@
 //! The diagram as a drawing.
 ghost use Rattle.std.specs.Prelude.{◌≡◌};
 ghost use Rattle.pg_certificate.specs.Pushing.{Adds, MayPush, Pushes};
-ghost use Rattle.pg_page.specs.Board.{board_text, class_of, man_text, men_text, square_text};
+ghost use Rattle.pg_page.specs.Board.{board_text, class_of, counts_text, man_text, men_text, square_text};
 
 use crate::lines::{write_around, write_escaped, write_number};
 use pg_board::{Board, Color, Man, Square};
+use pg_captures::all_men;
 use pg_certificate::{Refused, Sink};
 use pg_fen::{Diagram, letter_of};
 
@@ -50,7 +51,18 @@ fn write_men<W: Sink>(board: &Board, out: &mut W) -> Result<(), Refused>
     Ok(())
 }
 
-// Appends the diagram as a board, with its placement in letters.
+// Appends how many men White and Black have.
+fn write_counts<W: Sink>(board: &Board, out: &mut W) -> Result<(), Refused>
+    ensures { Pushes W.held W.has_failed (Adds (counts_text board.now)) out.old out.new result }
+{
+    let white = all_men(board, Color::White);
+    let black = all_men(board, Color::Black);
+    write_number("(", u64::from(white), out)?;
+    write_number("+", u64::from(black), out)?;
+    out.push(b")")
+}
+
+// Appends the diagram as a board, with its men counted and its placement in letters.
 pub(crate) fn write_board<W: Sink>(diagram: &Diagram, out: &mut W) -> Result<(), Refused>
     ensures { Pushes W.held W.has_failed (Adds (board_text diagram.now)) out.old out.new result }
 {
@@ -58,8 +70,11 @@ pub(crate) fn write_board<W: Sink>(diagram: &Diagram, out: &mut W) -> Result<(),
         b"<figure><svg class=\"board\" viewBox=\"-.5 0 8.5 8.5\" role=\"img\" \
 aria-label=\"The diagram\"><use href=\"#squares\"/>",
     )?;
-    write_men(&diagram.board(), out)?;
-    out.push(b"</svg><figcaption><code>")?;
+    let board = diagram.board();
+    write_men(&board, out)?;
+    out.push(b"</svg><figcaption>")?;
+    write_counts(&board, out)?;
+    out.push(b"<br><code>")?;
     write_escaped(diagram.write().as_str(), out)?;
     out.push(b"</code></figcaption></figure>\n")
 }

@@ -6,7 +6,8 @@ ghost use Rattle.pg_position.specs.Array.{array_state};
 ghost use Rattle.pg_san.specs.Games.{IsFromArray};
 ghost use Rattle.pg_texts.specs.Movetext.{IsMovetext};
 ghost use Rattle.pg_page.specs.Heading.{AreGameItems, AreMoveTexts, IsGameItem, IsGameList, IsHead};
-ghost use Rattle.pg_page.specs.Heading.{answer_text, checked_text, closing, end_words, front_text, verdict_words};
+ghost use Rattle.pg_page.specs.Heading.{answer_text, author_text, caption_text, checked_text, end_words, front_text};
+ghost use Rattle.pg_page.specs.Heading.{headed_text, list_end, list_start, named_text, title_text, verdict_words};
 
 use crate::board::write_board;
 use crate::lines::{move_text, write_around, write_escaped, write_number};
@@ -17,40 +18,91 @@ use pg_position::{Move, Position};
 use pg_san::Games;
 use pg_texts::write_movetext;
 
+/// What a page is to be called, and by whom the problem is: any texts, which are escaped. No text stands for none, and
+/// a page without a title has its length as one.
+#[derive(Clone, Copy, Debug)]
+pub struct Caption<'a> {
+    pub title: &'a str,
+    pub author: &'a str,
+}
+
 // What was checked, behind the numbers.
 const CHECKED: &str =
     " named nodes: a tree of all games up to this length, with a reason at each branch that ends early. The program
 <code>pg</code> has tested each record. Its check is proved: where it says yes, the games below are all there are.</p>
 ";
 
-// What stands behind the number of plies: where the check went by journeys, the word that it takes, for the script.
-fn closing(by_journeys: bool) -> &'static str
-    ensures { result.now ≡ closing by_journeys }
+// Appends a title, or that of a length where it is empty.
+fn write_title<W: Sink>(title: &str, length: &str, out: &mut W) -> Result<(), Refused>
+    ensures { MayPush W.held W.has_failed (Adds (title_text title.now length.now)) out.old out.new result }
 {
-    if by_journeys {
-        "\" data-word=\"--journeys\">\n"
-    } else {
-        "\">\n"
+    if title.is_empty() {
+        return write_around("A proof game in ", length, " moves", out);
     }
+    write_escaped(title, out)
+}
+
+// Appends by whom a problem is, where that is said.
+fn write_author<W: Sink>(author: &str, out: &mut W) -> Result<(), Refused>
+    ensures { MayPush W.held W.has_failed (Adds (author_text author.now)) out.old out.new result }
+{
+    if author.is_empty() {
+        return Ok(());
+    }
+    out.push(b" by ")?;
+    write_escaped(author, out)
+}
+
+// Appends the caption of a problem of this length.
+fn write_caption<W: Sink>(caption: &Caption<'_>, length: &str, out: &mut W) -> Result<(), Refused>
+    ensures { MayPush W.held W.has_failed
+        (Adds (caption_text caption.now.title.now caption.now.author.now length.now)) out.old out.new result }
+{
+    write_title(caption.title, length, out)?;
+    write_author(caption.author, out)
+}
+
+// Appends the style and the title of the document, up to the problem's diagram.
+fn write_named<W: Sink>(caption: &Caption<'_>, length: &str, out: &mut W) -> Result<(), Refused>
+    ensures { Pushes W.held W.has_failed
+        (Adds (named_text (caption_text caption.now.title.now caption.now.author.now length.now))) out.old out.new result }
+{
+    out.push(BEGIN.as_bytes())?;
+    out.push(b"<title>")?;
+    write_caption(caption, length, out)?;
+    out.push(b"</title>\n</head>\n<body data-diagram=\"")
+}
+
+// Appends the drawings of the men, and the heading.
+fn write_headed<W: Sink>(caption: &Caption<'_>, length: &str, out: &mut W) -> Result<(), Refused>
+    ensures { Pushes W.held W.has_failed
+        (Adds (headed_text (caption_text caption.now.title.now caption.now.author.now length.now))) out.old out.new result }
+{
+    out.push(MEN.as_bytes())?;
+    out.push(b"<h1>")?;
+    write_caption(caption, length, out)?;
+    out.push(b"</h1>\n")
 }
 
 // Appends what stands before the verdict: the same whatever the answer is.
-fn write_front<W: Sink>(problem: &Problem, by_journeys: bool, out: &mut W) -> Result<(), Refused>
+fn write_front<W: Sink>(
+    problem: &Problem,
+    caption: &Caption<'_>,
+    out: &mut W,
+) -> Result<(), Refused>
     ensures { Pushes W.held W.has_failed
-        (Adds (front_text problem.now.diagram problem.now.length by_journeys)) out.old out.new result }
+        (Adds (front_text problem.now.diagram problem.now.length caption.now.title.now caption.now.author.now))
+        out.old out.new result }
 {
     let placement = problem.diagram.write();
     let length = problem.length.write();
     let length = length.as_str();
-    let behind = " moves</title>\n</head>\n<body data-diagram=\"";
-    out.push(BEGIN.as_bytes())?;
-    write_around("<title>A proof game in ", length, behind, out)?;
+    write_named(caption, length, out)?;
     write_escaped(placement.as_str(), out)?;
     write_around("\" data-length=\"", length, "\" data-plies=\"", out)?;
     write_number("", u64::from(problem.length.plies()), out)?;
-    out.push(closing(by_journeys).as_bytes())?;
-    out.push(MEN.as_bytes())?;
-    write_around("<h1>A proof game in ", length, " moves</h1>\n", out)?;
+    out.push(b"\">\n")?;
+    write_headed(caption, length, out)?;
     write_board(&problem.diagram, out)
 }
 
@@ -169,13 +221,37 @@ fn write_all<W: Sink>(games: &Games, out: &mut W) -> Result<(), Refused>
     Ok(())
 }
 
+// Appends what stands before the games: of more than twenty the list is folded.
+fn write_start<W: Sink>(count: usize, out: &mut W) -> Result<(), Refused>
+    ensures { Pushes W.held W.has_failed (Adds (list_start count)) out.old out.new result }
+{
+    if count <= 20 {
+        out.push(b"<h2>The games</h2>\n<ol id=\"games\">\n")
+    } else {
+        write_number("<h2>The games</h2>\n<details><summary>", count as u64, out)?;
+        out.push(b" games</summary>\n<ol id=\"games\">\n")
+    }
+}
+
+// What stands behind so many games.
+fn list_end(count: usize) -> &'static str
+    ensures { result.now ≡ list_end count }
+{
+    if count <= 20 {
+        "</ol>\n"
+    } else {
+        "</ol>\n</details>\n"
+    }
+}
+
 // Appends the list of the games.
 fn write_games<W: Sink>(games: &Games, out: &mut W) -> Result<(), Refused>
     ensures { Pushes W.held W.has_failed (AddsSome (IsGameList games.now)) out.old out.new result }
 {
-    out.push(b"<h2>The games</h2>\n<ol id=\"games\">\n")?;
+    let count = games.len();
+    write_start(count, out)?;
     write_all(games, out)?;
-    out.push(b"</ol>\n")
+    out.push(list_end(count).as_bytes())
 }
 
 // Appends the verdict in a sentence, and what was checked.
@@ -193,17 +269,18 @@ fn write_answer<W: Sink>(problem: &Problem, answer: &Answer, out: &mut W) -> Res
     out.push(CHECKED.as_bytes())
 }
 
-// Appends all that stands before the trees, on a check that went by journeys or by the other bounds alone.
+// Appends all that stands before the trees.
 pub(crate) fn write_head<W: Sink>(
     problem: &Problem,
-    by_journeys: bool,
+    caption: &Caption<'_>,
     answer: &Answer,
     out: &mut W,
 ) -> Result<(), Refused>
     ensures { Pushes W.held W.has_failed
-        (AddsSome (IsHead problem.now.diagram problem.now.length by_journeys answer.now)) out.old out.new result }
+        (AddsSome (IsHead problem.now.diagram problem.now.length caption.now.title.now caption.now.author.now answer.now))
+        out.old out.new result }
 {
-    write_front(problem, by_journeys, out)?;
+    write_front(problem, caption, out)?;
     write_answer(problem, answer, out)?;
     write_games(&answer.games, out)
 }

@@ -15,5 +15,5 @@ mod style;
 mod telling;
 
 pub use fault::PageFault;
-pub use heading::write_checked;
+pub use heading::{Caption, write_checked};
 pub use paging::page;

@@ -5,49 +5,23 @@ ghost use Rattle.pg_checker.specs.Answering.{HasAnswer, failures};
 ghost use Rattle.pg_checker.specs.Cuts.{any_rules_by, rules_by};
 ghost use Rattle.pg_checker.specs.Opening.{bytes_of};
 ghost use Rattle.pg_checker.specs.Terms.{terms};
-ghost use Rattle.pg_page.specs.Page.{AddsHead, has_journeys, IsPageFault, IsShowingFault, IsShown};
+ghost use Rattle.pg_page.specs.Page.{AddsHead, IsPageFault, IsShowingFault, IsShown};
 
 use crate::fault::PageFault;
-use crate::heading::write_head;
+use crate::heading::{Caption, write_head};
 use crate::log::Log;
 use crate::script::{SCRIPT, VIEWER};
 use crate::telling::tell;
 use pg_captures::Bound;
 use pg_certificate::{Refused, Sink, Source};
 use pg_checker::{Answer, Opened, Problem, answer_opened};
+use pg_fen::text::digits;
 use pg_sentences::phrases::{
     AFTER, AS, AT_THE_START, BARREN, CUT_BY, ELSEWHERE, EXCLUDED, SOLUTION, UNSEEN,
 };
 use pg_sentences::untold;
 use pg_tolls::Tariff;
 use std::alloc::Global;
-
-// The code of the bound by journeys.
-const JOURNEYS: u8 = 5;
-
-// The code by which a certificate names a bound.
-fn code_of_box(bound: &Box<dyn Bound>) -> u8
-    ensures { result ≡ code_of bound.now }
-{
-    bound.code()
-}
-
-// Whether the bound by journeys is among these.
-fn has_journeys(bounds: &[Box<dyn Bound>]) -> bool
-    ensures { result ≡ has_journeys code_of bounds.now }
-{
-    for bound in bounds {
-        if code_of_box(bound) == JOURNEYS {
-            return true;
-        }
-    }
-    false
-}
-
-// The word behind a command, where its check is to go by journeys.
-fn word_for(by_journeys: bool) -> &'static str {
-    if by_journeys { " --journeys" } else { "" }
-}
 
 // Appends texts.
 fn write_all<W: Sink>(texts: &[&str], out: &mut W) -> Result<(), Refused>
@@ -60,16 +34,15 @@ fn write_all<W: Sink>(texts: &[&str], out: &mut W) -> Result<(), Refused>
 }
 
 // Appends what stands between the games and the trees: the command that checks the certificate, and the words that the
-// script puts beside what the trees say.
-fn write_viewer<W: Sink>(by_journeys: bool, out: &mut W) -> Result<(), Refused>
+// script puts beside what the trees say, with how many tariffs stand before the certificate.
+fn write_viewer<W: Sink>(tariffs: usize, out: &mut W) -> Result<(), Refused>
     ensures { MayPush W.held W.has_failed Grows out.old out.new result }
 {
-    let word = word_for(by_journeys);
+    let tariffs = digits(tariffs);
     let untold = untold(0);
     write_all(
         &[
             VIEWER,
-            word,
             "</code>.</p>\n<div id=\"phrases\" hidden data-start=\"",
             AT_THE_START,
             "\" data-after=\"",
@@ -90,6 +63,8 @@ fn write_viewer<W: Sink>(by_journeys: bool, out: &mut W) -> Result<(), Refused>
             ELSEWHERE,
             "\" data-untold=\"",
             untold.as_str(),
+            "\" data-tariffs=\"",
+            tariffs.as_str(),
             "\"></div>\n<pre id=\"trees\" hidden>",
         ],
         out,
@@ -105,15 +80,10 @@ fn write_end<W: Sink>(out: &mut W) -> Result<(), Refused>
 }
 
 // Appends what stands below the games.
-fn write_proof<W: Sink>(
-    problem: &Problem,
-    by_journeys: bool,
-    log: &Log<'_>,
-    out: &mut W,
-) -> Result<(), Refused>
+fn write_proof<W: Sink>(problem: &Problem, log: &Log<'_>, out: &mut W) -> Result<(), Refused>
     ensures { Pushes W.held W.has_failed Grows out.old out.new result }
 {
-    write_viewer(by_journeys, out)?;
+    write_viewer(log.tariffs.len(), out)?;
     tell(&problem.diagram, log, out)?;
     write_end(out)
 }
@@ -123,28 +93,29 @@ fn write_proof<W: Sink>(
 #[inline(never)]
 fn show<W: Sink>(
     problem: &Problem,
-    by_journeys: bool,
+    caption: &Caption<'_>,
     answer: &Answer,
     log: &Log<'_>,
     out: &mut W,
 ) -> Result<(), Refused>
     ensures { Pushes W.held W.has_failed
-        (AddsHead problem.now.diagram problem.now.length by_journeys answer.now) out.old out.new result }
+        (AddsHead problem.now.diagram problem.now.length caption.now.title.now caption.now.author.now answer.now)
+        out.old out.new result }
 {
-    write_head(problem, by_journeys, answer, out)?;
-    write_proof(problem, by_journeys, log, out)
+    write_head(problem, caption, answer, out)?;
+    write_proof(problem, log, out)
 }
 
 // Writes the page of a problem and its answer, with what was met of the trees, where there was room for that.
 fn write_page<W: Sink>(
     problem: &Problem,
-    by_journeys: bool,
+    caption: &Caption<'_>,
     answer: &Answer,
     log: &mut Log<'_>,
     out: &mut W,
 ) -> Result<(), PageFault>
-    ensures head { OnOk result (AddsHead problem.now.diagram problem.now.length by_journeys answer.now
-        (W.held out.old) (W.held out.new)) }
+    ensures head { OnOk result (AddsHead problem.now.diagram problem.now.length
+        caption.now.title.now caption.now.author.now answer.now (W.held out.old) (W.held out.new)) }
     ensures runs { OnOk result (W.has_failed out.new ≡ false) }
     ensures err { IfErr result (IsShowingFault (W.has_failed out.new)) }
 {
@@ -152,19 +123,19 @@ fn write_page<W: Sink>(
     if log.is_lost {
         return Err(PageFault::Memory);
     }
-    match show(problem, by_journeys, answer, log, out) {
+    match show(problem, caption, answer, log, out) {
         Ok(()) => Ok(()),
         Err(Refused) => Err(PageFault::Write),
     }
 }
 
 /// Checks a certificate that was opened, and writes a page that shows it: one file of HTML, which needs nothing else,
-/// with at most `nodes` expanded nodes of the tree of the stated length, and of the shorter ones together. `tariffs` are
+/// with the title and the author of `caption`, and at most `nodes` expanded nodes of the tree of the stated length, and of the shorter ones together. `tariffs` are
 /// those of the bounds with the codes from `Tolls::FIRST_CODE` on, in their order, for the words of their cuts.
 /// docs/FORMATS.md says what stands there. Ok means that some list of games is the exact answer to the problem of the
-/// header, that the certificate proves it, and that the page begins with the head of just that answer: the diagram,
-/// the word `--journeys` where the bound by journeys is among those handed in, the verdict, what was checked, and each
-/// game. No clause speaks of what follows. Nothing is written before the check has said yes.
+/// header, that the certificate proves it, and that the page begins with the head of just that answer: the caption, the
+/// diagram, the verdict, what was checked, and each game. No clause speaks of what follows. Nothing is written before
+/// the check has said yes.
 ///
 /// The certificate is read once: `source` is the one that it was opened from, as that call left it. The games, the
 /// named nodes, the lines of the trees and the tables of tariffs take their room from `alloc`; nothing else takes
@@ -176,6 +147,7 @@ fn write_page<W: Sink>(
 pub fn page<R: Source, W: Sink>(
     alloc: Global,
     opened: &mut Opened,
+    caption: &Caption<'_>,
     nodes: u64,
     tariffs: &[Tariff],
     bounds: &[Box<dyn Bound>],
@@ -189,7 +161,7 @@ pub fn page<R: Source, W: Sink>(
         opened.old.diagram opened.old.plies) }
     ensures head { OnOk result (IsShown
         (terms (rules_by code_of excluded bounds.now) max_records max_named (bytes_of opened.old (R.left source.old)))
-        opened.old.diagram opened.old.plies (has_journeys code_of bounds.now) (W.held out.old) (W.held out.new)) }
+        opened.old.diagram opened.old.plies caption.now.title.now caption.now.author.now (W.held out.old) (W.held out.new)) }
     ensures silent { (W.held out.new ≡ W.held out.old) ⊎ HasAnswer
         (terms (rules_by code_of excluded bounds.now) max_records max_named (bytes_of opened.old (R.left source.old)))
         opened.old.diagram opened.old.plies }
@@ -212,8 +184,7 @@ pub fn page<R: Source, W: Sink>(
         max_named,
     ) {
         Ok(answer) => {
-            let by_journeys = has_journeys(bounds);
-            match write_page(&problem, by_journeys, &answer, &mut log, out) {
+            match write_page(&problem, caption, &answer, &mut log, out) {
                 Ok(()) => Ok(()),
                 Err(fault) => Err(fault),
             }

@@ -1,8 +1,8 @@
 //! The part of the page that shows the proof: what stands there, and the script that fills it. The script plays the
 //! moves that it is given on a board and never judges whether a move is legal.
 
-// What the script fills, and below it the command that checks the certificate, up to the word that this takes.
-pub(crate) const VIEWER: &str = "<h2>The proof</h2>
+// What the script fills, and below it the command that checks the certificate.
+pub(crate) const VIEWER: &str = "<h2 id='proof'>The proof</h2>
 <p class='hint'>Choose a move to go on. The arrow keys do the same: left is back, right goes on along the chosen \
 game, or else by the first move that leads on. The address of this page keeps the moves so far, so a line can be \
 sent to somebody.</p>
@@ -10,7 +10,8 @@ sent to somebody.</p>
 <div id='left'><div id='board'></div>
 <div id='bar'><button id='first' title='to the start'>&#171;</button> <button id='back' title='one move back (left \
 arrow)'>&#8249;</button> <button id='next' title='one move on (right arrow)'>&#8250;</button> <button id='last' \
-title='to the end of the game'>&#187;</button></div>
+title='to the end of the game'>&#187;</button> <button \
+id='flip' title='turn the board'>&#8645;</button></div>
 <p id='line'></p></div>
 <div id='right'><p id='words' aria-live='polite'></p><div id='moves'></div></div>
 </section>
@@ -31,7 +32,7 @@ pub(crate) const SCRIPT: &str = "'use strict';
   var problem = document.body.dataset, plies = +problem.plies;
   var lines = element('trees').textContent.split('\\n');
   var nodes = {}, named = {}, roots = {}, counts = {};
-  var games = [], chosen = 0, path = [];
+  var games = [], chosen = 0, path = [], isFlipped = false, marked = null;
 
   function element(id) { return document.getElementById(id); }
 
@@ -112,12 +113,17 @@ pub(crate) const SCRIPT: &str = "'use strict';
 
   function after(sans) { return sans.length ? words.after + movetext(sans, ' ') : words.start; }
 
+  // The bound with a code. Behind that by journeys stand those by tolls, one for each tariff.
+  function boundOf(code) {
+    return BOUNDS[code] || (code >= BOUNDS.length && code < BOUNDS.length + +words.tariffs ? 'tolls' : 'other bounds');
+  }
+
   // How a child counts at a node with so many plies left.
   function kindOf(entry, left) {
     if (entry.mark === '@') return 'reference';
     if (entry.mark === '*') return 'lead';
     if (entry.mark === ',') return 'off';
-    if (entry.mark === ':') return BOUNDS[parseInt(entry.rest, 10)] || 'other bounds';
+    if (entry.mark === ':') return boundOf(parseInt(entry.rest, 10));
     if (left > 2 || entry.node.games > 0) return 'lead';
     return BOUNDS[entry.node.code] || 'played out';
   }
@@ -174,16 +180,29 @@ pub(crate) const SCRIPT: &str = "'use strict';
     return ranks.join('/');
   }
 
-  function drawing(board) {
+  // Where a square stands on the drawing, whose corner at the top left is a8, or h1 where it is turned.
+  function placeOf(square) {
+    var file = square % 8, rank = Math.floor(square / 8);
+    return ' x=\"' + (isFlipped ? 7 - file : file) + '\" y=\"' + (isFlipped ? rank : 7 - rank) + '\" width=\"1\" height=\"1\"/>';
+  }
+
+  // The digits of the ranks and the letters of the files on a board that is turned.
+  function turnedLabels() {
+    return 'hgfedcba'.split('').map(function (file, i) {
+      return '<text x=\"-.25\" y=\"' + (i + .62) + '\">' + (i + 1) + '</text><text x=\"' + (i + .5) + '\" y=\"8.38\">' + file + '</text>';
+    }).join('');
+  }
+
+  // The board, with the squares of the last move marked, if there is one.
+  function drawing(board, last) {
     var men = board.map(function (man, i) {
       var kind = man.toUpperCase(), color = man === kind ? 'w' : 'b';
-      return man === '.' ? '' : '<use class=\"' + color + '\" href=\"#m' + kind + '\" x=\"' + i % 8 + '\" y=\"' + \
-          (7 - Math.floor(i / 8)) +
-        '\" width=\"1\" height=\"1\"/>';
+      return man === '.' ? '' : '<use class=\"' + color + '\" href=\"#m' + kind + '\"' + placeOf(i);
     });
-    return '<svg class=\"board\" viewBox=\"-.5 0 8.5 8.5\" role=\"img\" aria-label=\"' + placementOf(board) + \
-        '\"><use href=\"#squares\"/>' +
-      men.join('') + '</svg>';
+    var marks = (last ? [last.from, last.to] : []).map(function (i) { return '<rect class=\"last\"' + placeOf(i); });
+    var ground = isFlipped ? '<use href=\"#field\"/><g class=\"labels\">' + turnedLabels() + '</g>' : '<use href=\"#squares\"/>';
+    return '<svg class=\"board\" viewBox=\"-.5 0 8.5 8.5\" role=\"img\" aria-label=\"' + placementOf(board) + '\">' + ground +
+      marks.join('') + men.join('') + '</svg>';
   }
 
   // ---- The reader's place.
@@ -221,7 +240,12 @@ pub(crate) const SCRIPT: &str = "'use strict';
     if (move) go(path.concat(move));
   }
 
-  function goTo(number) { chosen = number; go(games[number]); }
+  function goTo(number, plies) { chosen = number; go(games[number].slice(0, plies)); }
+
+  function flip() {
+    isFlipped = !isFlipped;
+    show('');
+  }
 
   // The move with this text after moves, of the tree or of a game.
   function moveAfter(moves, san) {
@@ -247,8 +271,7 @@ pub(crate) const SCRIPT: &str = "'use strict';
   // ---- What is shown.
 
   function question() {
-    var said = \"pg why CERT '\" + (path.length ? movetext(sansOf(path), ' ') : '-') + \"'\";
-    return problem.word ? said + ' ' + problem.word : said;
+    return \"pg why CERT '\" + (path.length ? movetext(sansOf(path), ' ') : '-') + \"'\";
   }
 
   function showLine() {
@@ -290,7 +313,7 @@ pub(crate) const SCRIPT: &str = "'use strict';
     if (!entry || !entry.node || !entry.node.isTold) return;
     kinds = kindsOf(children(entry.node), left);
     if (kinds.lead) showRows(kinds.lead, left, moves);
-    BOUNDS.concat('other bounds').forEach(function (kind) {
+    BOUNDS.concat('tolls', 'other bounds').forEach(function (kind) {
       if (kinds[kind]) showFolded(kinds[kind].length + ' excluded by ' + kind, kinds[kind], left, moves);
     });
     if (kinds.reference) showFolded(kinds.reference.length + ' the same as after other moves', \
@@ -302,14 +325,14 @@ pub(crate) const SCRIPT: &str = "'use strict';
 
   function show(note) {
     var board = boardAfter(path), left = plies - path.length, entry = entryOf(path);
-    element('board').innerHTML = drawing(board);
+    element('board').innerHTML = drawing(board, path[path.length - 1]);
     element('viewer').dataset.placement = placementOf(board);
     element('words').textContent = after(sansOf(path)) + ': ' + (entry ? wordsOf(entry) : 'not told on this page') +
       (note ? ' (' + note + ')' : '');
     element('first').disabled = element('back').disabled = !path.length;
     element('next').disabled = !nextMove();
     element('last').disabled = !games.length;
-    games.forEach(function (game, i) { game.button.className = i === chosen && isFront(game, path) ? 'here' : ''; });
+    markMove();
     showLine();
     showMoves(entry, left);
   }
@@ -324,15 +347,40 @@ pub(crate) const SCRIPT: &str = "'use strict';
     if (!tree) make('li', 'There are none to look at.', list);
   }
 
+  // Marks the move of the chosen game that led to the reader's place.
+  function markMove() {
+    var game = games[chosen];
+    if (marked) marked.className = '';
+    marked = game && game.buttons && isFront(game, path) && game.buttons[path.length - 1] || null;
+    if (marked) marked.className = 'here';
+  }
+
+  // Makes each move of a game a button that leads to the board after it.
+  function showGame(game, number) {
+    game.item.textContent = '';
+    game.buttons = game.map(function (move, i) {
+      var made;
+      game.item.appendChild(document.createTextNode(i % 2 ? ' ' : (i ? ' ' : '') + (i / 2 + 1) + '. '));
+      made = make('button', move.san, game.item);
+      made.onclick = function () { goTo(number, i + 1); };
+      return made;
+    });
+    if (!game.length) make('button', '-', game.item).onclick = function () { go([]); };
+  }
+
+  // A list that is folded is filled with buttons when it is opened.
   function showGames() {
-    Array.prototype.forEach.call(document.querySelectorAll('[data-moves]'), function (span, number) {
+    var list = element('games'), frame = list.parentNode;
+    Array.prototype.forEach.call(list.querySelectorAll('[data-moves]'), function (span) {
       var game = span.dataset.moves.split(' ').filter(function (word) { return word; }).map(moveOf);
-      game.button = document.createElement('button');
-      game.button.textContent = span.textContent;
-      game.button.onclick = function () { goTo(number); };
-      span.parentNode.replaceChild(game.button, span);
+      game.item = span.parentNode;
       games.push(game);
     });
+    if (frame.tagName !== 'DETAILS') return games.forEach(showGame);
+    frame.addEventListener('toggle', function () {
+      games.forEach(showGame);
+      markMove();
+    }, { once: true });
   }
 
   // How much of the tree is told.
@@ -359,7 +407,8 @@ pub(crate) const SCRIPT: &str = "'use strict';
   element('first').onclick = function () { go([]); };
   element('back').onclick = goBack;
   element('next').onclick = goOn;
-  element('last').onclick = function () { goTo(chosen); };
+  element('last').onclick = function () { goTo(chosen, games[chosen].length); };
+  element('flip').onclick = flip;
   document.addEventListener('keydown', onKey);
   window.addEventListener('hashchange', readAddress);
   readAddress();

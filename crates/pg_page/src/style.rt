@@ -9,11 +9,13 @@ pub(crate) const BEGIN: &str = "<!DOCTYPE html>
 <style>
 body { font: 1em/1.45 sans-serif; max-width: 62em; margin: 0 auto; padding: .5em 1em 3em; color: #111; background: \
 #fff; }
-h1 { font-size: 1.5em; } h2 { font-size: 1.2em; margin-top: 1.6em; }
-figure { margin: 1em 0; } code { overflow-wrap: anywhere; }
+h1 { font-size: 1.5em; overflow-wrap: anywhere; } h2 { font-size: 1.2em; margin-top: 1.6em; }
+figure { margin: 1em 0; } figcaption { margin-top: .3em; } code { overflow-wrap: anywhere; }
 .board { display: block; width: 100%; max-width: 22em; }
 .w, .b { stroke: #000; stroke-width: 4; stroke-linejoin: round; stroke-linecap: round; } .w { fill: #fff; } .b { \
 fill: #000; }
+.last { fill: #e8c33a; fill-opacity: .6; } .labels { font-family: sans-serif; font-size: .34px; fill: #333; \
+text-anchor: middle; }
 .w .eye { fill: #000; stroke: none; } .b .eye { fill: #fff; stroke: none; }
 #viewer { display: flex; flex-wrap: wrap; gap: 1em 2em; }
 #left { flex: 1 1 18em; max-width: 22em; } #right { flex: 2 1 18em; min-width: 0; }
@@ -23,14 +25,15 @@ button:disabled { color: #999; border-color: #bbb; cursor: default; }
 button:hover:enabled, button:focus-visible { background: #dde6f2; }
 #bar button { min-width: 3em; margin-top: .5em; }
 #line button, .move { padding: .1em .4em; margin: .1em 0; }
-#games .here { font-weight: bold; } #games li { margin: .3em 0; } #games button { text-align: left; }
+#games li { margin: .3em 0; } #games button { padding: .1em .15em; border-color: transparent; background: none; }
+#games .here { background: #f0dc92; } details > #games { max-height: 22em; overflow: auto; }
 .rows { list-style: none; padding: 0; } .rows li { display: flex; align-items: baseline; padding: .15em 0; \
 border-bottom: 1px solid #ddd; }
 .move { flex: none; min-width: 4em; margin-right: .6em; text-align: left; font-weight: bold; }
 summary { cursor: pointer; padding: .3em 0; } .small { font-size: .85em; color: #444; }
 @media (min-width: 50em) { figure { float: left; width: 24em; margin: 0 2em 1em 0; } #games { overflow: hidden; } \
-#games + h2 { clear: both; } }
-@media (max-width: 40em) { .move, #line button { padding: .4em .7em; } summary { padding: .6em 0; } }
+#proof { clear: both; } }
+@media (max-width: 40em) { #games button, .move, #line button { padding: .4em .5em; } summary { padding: .6em 0; } }
 @media print { h1, h2 { break-after: avoid; } #bar, .hint { display: none; } button { border: none; background: none; \
 padding: 0 .3em; } .board { max-width: 9cm; } }
 </style>
@@ -42,7 +45,8 @@ pub(crate) const MEN: &str =
     "<svg width='0' height='0' style='position:absolute' aria-hidden='true'><defs>
 <pattern id='pair' width='2' height='2' patternUnits='userSpaceOnUse'><rect width='2' height='2' fill='#f6f3ea'/>\
 <path d='M1 0h1v1H1zM0 1h1v1H0z' fill='#bcc7ae'/></pattern>
-<g id='squares'><rect width='8' height='8' fill='url(#pair)' stroke='#333' stroke-width='.04'/>\
+<rect id='field' width='8' height='8' fill='url(#pair)' stroke='#333' stroke-width='.04'/>
+<g id='squares'><use href='#field'/>\
 <g font-family='sans-serif' font-size='.34' fill='#333' text-anchor='middle'>
 <text x='-.25' y='.62'>8</text><text x='-.25' y='1.62'>7</text><text x='-.25' y='2.62'>6</text>\
 <text x='-.25' y='3.62'>5</text><text x='-.25' y='4.62'>4</text><text x='-.25' y='5.62'>3</text>\

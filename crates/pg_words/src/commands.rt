@@ -121,7 +121,7 @@ proved.
 
 Example, with a certificate that a search writes first:
   pg search rnbqkbnr/pppp1ppp/8/4p3/4P3/8/PPPP1PPP/RNBQKBNR 1.0 e4e5.pgc
-  pg page e4e5.pgc >e4.html";
+  pg page e4e5.pgc --title 'Open game' >e4.html";
 
 const UPGRADE_EXAMPLE: &str =
     "The copy says what the old one says. It is put in its place when it is whole.
@@ -265,6 +265,18 @@ const NODES_TOLD: Word = Word {
     name: "nodes",
     kind: Kind::Limit("K", "20000", 0),
     help: "The most expanded nodes that are shown",
+};
+
+const TITLE: Word = Word {
+    name: "title",
+    kind: Kind::Named("TEXT"),
+    help: "The title of the page, in place of the length",
+};
+
+const AUTHOR: Word = Word {
+    name: "author",
+    kind: Kind::Named("TEXT"),
+    help: "The author of the problem, behind the title",
 };
 
 // The nodes of `pg judge`.
@@ -519,7 +531,14 @@ const COMMANDS: [Entry; 13] = [
         name: "page",
         about: "Writes a page of HTML that shows a certificate",
         below: PAGE_EXAMPLE,
-        words: &[CERTIFICATE, RECORDS, NODES_TOLD, JOURNEYS_ACCEPTED],
+        words: &[
+            CERTIFICATE,
+            RECORDS,
+            NODES_TOLD,
+            TITLE,
+            AUTHOR,
+            JOURNEYS_ACCEPTED,
+        ],
     },
     Entry {
         name: "upgrade",

@@ -16,7 +16,8 @@ use pg_page::*;
 use std::process::Abort;
 
 // What is answered with the four bounds, or with journeys as a fifth where the row ends so, by a reading of the
-// certificate. The row has the diagram and the length that the certificate is for, and a number of nodes.
+// certificate. The row has the diagram and the length that the certificate is for, and a number of nodes; last may stand
+// a title and an author.
 fn show<R: Abort + AllocGlobal, S: Source, W: Sink>(
     rt: &R,
     asked: &str,
@@ -26,6 +27,10 @@ fn show<R: Abort + AllocGlobal, S: Source, W: Sink>(
     let bounds = bounds_for(rt, field(asked, 5));
     let problem = problem_of(rt, field(asked, 0), field(asked, 1));
     let nodes = field(asked, 2).parse::<u64>().expect(rt, asked);
+    let caption = Caption {
+        title: field(asked, 6),
+        author: field(asked, 7),
+    };
     let mut opened = match opened_for(rt, &problem, source) {
         Ok(opened) => opened,
         Err(fault) => return unopened(fault),
@@ -33,6 +38,7 @@ fn show<R: Abort + AllocGlobal, S: Source, W: Sink>(
     told(&page(
         rt.alloc(),
         &mut opened,
+        &caption,
         nodes,
         &[],
         &bounds,

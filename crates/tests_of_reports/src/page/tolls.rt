@@ -11,7 +11,8 @@ const CERTIFICATE: &str =
 
 const SAID: &str = "$BQNa3:6white and black together need 3 plies and have 1 (tolls)$
 $) 1 of 20 moves leads on; cut 19 by tolls; 1 game below$
-$LTd3:6the pawn on d2 of the diagram has left its square (tolls)$";
+$LTd3:6the pawn on d2 of the diagram has left its square (tolls)$
+data-tariffs=\"1\"></div>$";
 
 // The page has these lines.
 #[test]
@@ -32,6 +33,10 @@ fn cuts_by_tolls_are_told(rt: HostRuntime) {
     let answer = page(
         rt.alloc(),
         &mut opened,
+        &Caption {
+            title: "",
+            author: "",
+        },
         9,
         &tariffs,
         &bounds,

@@ -48,6 +48,17 @@ fn trees_are_told_depth_first(rt: HostRuntime) {
 // What a page says of its problem, its verdict and its games.
 const HEADS: &str =
     "after-e4 | 0.5 | 9 | 2 after-e4 0.5 | 01 => <title>A proof game in 0.5 moves</title>
+after-e4 | 0.5 | 9 | 2 after-e4 0.5 | 01 => <h1>A proof game in 0.5 moves</h1>
+after-e4 | 0.5 | 9 | 2 after-e4 0.5 | 01 | four | A title => <title>A title</title>
+after-e4 | 0.5 | 9 | 2 after-e4 0.5 | 01 | four | A title | Nobody => <h1>A title by Nobody</h1>
+after-e4 | 0.5 | 9 | 2 after-e4 0.5 | 01 | four |  | Nobody => <title>A proof game in 0.5 moves by Nobody</title>
+after-e4 | 0.5 | 9 | 2 after-e4 0.5 | 01 | four | </title><script>\"&' | </h1> => \
+    <title>&lt;/title&gt;&lt;script&gt;&quot;&amp;' by &lt;/h1&gt;</title>
+after-e4 | 0.5 | 9 | 2 after-e4 0.5 | 01 | four | Задача ♘ | Ł. Ö. => <h1>Задача ♘ by Ł. Ö.</h1>
+after-e4 | 0.5 | 9 | 2 after-e4 0.5 | 01 => <figcaption>(16+16)<br><code>rnbqkbnr/pppppppp/8/8/4P3/8/PPPP1PPP/RNBQKBNR</code>
+rnbqkbnr/pppppppp/8/8/8/2N2N2/PPPPPPPP/R1BQKB1R | 0.5 | 9 | 2 rnbqkbnr/pppppppp/8/8/8/2N2N2/PPPPPPPP/R1BQKB1R 0.5 | \
+    0205 | journeys => (16+16)
+recaptured | 2.0 | 9 | 1 recaptured 2.0 | 01*9766 => <figcaption>(15+15)<br>
 after-e4 | 0.5 | 9 | 2 after-e4 0.5 | 01 => \
     <body data-diagram=\"rnbqkbnr/pppppppp/8/8/4P3/8/PPPP1PPP/RNBQKBNR\" data-length=\"0.5\" data-plies=\"1\">
 after-e4 | 0.5 | 9 | 2 after-e4 0.5 | 01 => <use class=\"w\" href=\"#mP\" x=\"4\" y=\"4\" width=\"1\" height=\"1\"/>
@@ -65,10 +76,10 @@ after-e4 | 0.5 | 9 | 2 after-e4 0.5 | 01 => data-start=\"at the start\" data-aft
 after-e4 | 0.5 | 9 | 2 after-e4 0.5 | 01 => data-excluded=\"excluded: \"
 after-e4 | 0.5 | 9 | 2 after-e4 0.5 | 01 => Who wants to be sure runs <code>pg answer CERT</code>.
 rnbqkbnr/pppppppp/8/8/8/2N2N2/PPPPPPPP/R1BQKB1R | 0.5 | 9 | 2 rnbqkbnr/pppppppp/8/8/8/2N2N2/PPPPPPPP/R1BQKB1R 0.5 | \
-    0205 | journeys => data-length=\"0.5\" data-plies=\"1\" data-word=\"--journeys\">
+    0205 | journeys => data-length=\"0.5\" data-plies=\"1\">
 rnbqkbnr/pppppppp/8/8/8/2N2N2/PPPPPPPP/R1BQKB1R | 0.5 | 9 | 2 rnbqkbnr/pppppppp/8/8/8/2N2N2/PPPPPPPP/R1BQKB1R 0.5 | \
-    0205 | journeys => Who wants to be sure runs <code>pg answer CERT --journeys</code>.
-after-e4 | 0.5 | 9 | 2 after-e4 0.5 | 01 => data-untold=\"expanded, with no game below\"
+    0205 | journeys => Who wants to be sure runs <code>pg answer CERT</code>.
+after-e4 | 0.5 | 9 | 2 after-e4 0.5 | 01 => data-untold=\"expanded, with no game below\" data-tariffs=\"0\"></div>
 array | 0.0 | 9 | 1 array 0.0 |  => <li><span data-moves=\"\">-</span></li>";
 
 // A page says this.

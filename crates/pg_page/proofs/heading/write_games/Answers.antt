@@ -1,5 +1,4 @@
-use Rattle.std.proofs.Common.{rules}
-use Rattle.std.specs.Prelude.{codes}
+use Rattle.std.proofs.Common.{◌∙◌, rules}
 use Rattle.std.specs.Io.KnownBytes.{Appends}
 use Rattle.pg_certificate.specs.Pushing.{AddsSome}
 use Rattle.pg_texts.proofs.OutcomeLemmas.{on_ok}
@@ -10,9 +9,9 @@ use Rattle.pg_page.proofs.heading.write_games.Goals as goal
 pub returns : goal.returns
 returns g c = record {
   text =
-      on_ok c.push-2.result (Appends (g.W.Sink.held c.write_all.new.out) (g.W.Sink.held c.push-2.new.self) (codes "</ol>\n")) (AddsSome (IsGameList c.args.games.now) (g.W.Sink.held c.args.out.now) (g.W.Sink.held c.push-2.new.self))
-      (list_grows c.args.games.now _ _ _ _ c.in_ok-push.ensures.bytes c.in_ok-write_all.ensures.text)
-      c.push-2.ensures.bytes;
+      on_ok c.push.result (Appends (g.W.Sink.held c.write_all.new.out) (g.W.Sink.held c.push.new.self) c.as_bytes.result.now) (AddsSome (IsGameList c.args.games.now) (g.W.Sink.held c.args.out.now) (g.W.Sink.held c.push.new.self))
+      (list_grows c.args.games.now c.len-count.result c.as_bytes.result.now _ _ _ _ c.len-count.ensures.value (c.as_bytes.ensures.value ∙ c.list_end.ensures) c.in_ok-write_start.ensures.text c.in_ok-write_all.ensures.text)
+      c.push.ensures.bytes;
   runs = search rules;
   fault = search rules;
 }

@@ -1,11 +1,11 @@
 use Rattle.std.proofs.Common.{inr, subst}
-use Rattle.std.specs.Prelude.{Bool, ℕ}
+use Rattle.std.specs.Prelude.{ℕ}
 use Rattle.pg_board.specs.Placement.{Placement}
 use Rattle.pg_checker.specs.Cuts.{any_rules_by, rules_by}
 use Rattle.pg_checker.specs.Opening.{bytes_of}
 use Rattle.pg_checker.specs.Terms.{terms}
 use Rattle.pg_checker.specs.Answering.{failures}
-use Rattle.pg_page.specs.Page.{AddsHead, has_journeys}
+use Rattle.pg_page.specs.Page.{AddsHead}
 use Rattle.pg_page.proofs.PageLemmas.{unshown}
 use Rattle.pg_page.proofs.paging.page.Goals as goal
 
@@ -20,13 +20,11 @@ returns-in-Ok-write_page-clause-head g c = (
   c.in-Ok.answer,
   c.in-Ok.ensures.headline,
   c.in-Ok.ensures.accepted,
-  subst (λ (d : Placement). AddsHead d c.args.opened.now.plies (has_journeys (λ b. (goal.Bound-dyn g (b.vtable, b.value)).code_of b.value) c.args.bounds.now) c.in-Ok.answer
+  subst (λ (d : Placement). AddsHead d c.args.opened.now.plies c.args.caption.now.title.now c.args.caption.now.author.now c.in-Ok.answer
       (g.W.Sink.held c.args.out.now) (g.W.Sink.held c.write_page.new.out)) c.problem-problem.ensures.diagram
-      (subst (λ (n : ℕ). AddsHead c.problem-problem.result.diagram n (has_journeys (λ b. (goal.Bound-dyn g (b.vtable, b.value)).code_of b.value) c.args.bounds.now) c.in-Ok.answer
+      (subst (λ (n : ℕ). AddsHead c.problem-problem.result.diagram n c.args.caption.now.title.now c.args.caption.now.author.now c.in-Ok.answer
       (g.W.Sink.held c.args.out.now) (g.W.Sink.held c.write_page.new.out)) c.problem-problem.ensures.length
-      (subst (λ (b : Bool). AddsHead c.problem-problem.result.diagram c.problem-problem.result.length b c.in-Ok.answer
-      (g.W.Sink.held c.args.out.now) (g.W.Sink.held c.write_page.new.out)) c.has_journeys-by_journeys.ensures
-      c.in-Ok-write_page.ensures.head)),
+      c.in-Ok-write_page.ensures.head),
 )
 
 pub returns-in-Ok-write_page-clause-silent : goal.returns-in-Ok-write_page-clause-silent

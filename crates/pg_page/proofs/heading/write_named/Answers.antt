@@ -1,0 +1,18 @@
+use Rattle.std.proofs.Common.{rules}
+use Rattle.std.specs.Prelude.{codes}
+use Rattle.std.specs.Io.KnownBytes.{Appends}
+use Rattle.pg_page.specs.Heading.{caption_text, named_text}
+use Rattle.pg_page.specs.declared.style.TheConstants.{BEGIN}
+use Rattle.pg_page.proofs.HeadLemmas.{framed_grows}
+use Rattle.pg_texts.proofs.OutcomeLemmas.{on_ok}
+use Rattle.pg_page.proofs.heading.write_named.Goals as goal
+
+pub returns : goal.returns
+returns g c = record {
+  text =
+      on_ok c.push-3.result (Appends (g.W.Sink.held c.write_caption.new.out) (g.W.Sink.held c.push-3.new.self) (codes "</title>\n</head>\n<body data-diagram=\"")) (Appends (g.W.Sink.held c.args.out.now) (g.W.Sink.held c.push-3.new.self) (named_text (caption_text c.args.caption.now.title.now c.args.caption.now.author.now c.args.length.now)))
+      (framed_grows c.as_bytes.result.now BEGIN.now (codes "<title>") (caption_text c.args.caption.now.title.now c.args.caption.now.author.now c.args.length.now) (codes "</title>\n</head>\n<body data-diagram=\"") _ _ _ _ _ c.as_bytes.ensures.value c.in_ok-push.ensures.bytes c.in_ok-push-2.ensures.bytes c.in_ok-write_caption.ensures.text)
+      c.push-3.ensures.bytes;
+  runs = search rules;
+  fault = search rules;
+}
