@@ -98,13 +98,14 @@ flag_missing f name wanted e =
     (λ h. absurd (let z : false ≡ true = h in cc), λ g. absurd (let z : None ≡ Some wanted = word_or_none f name None e ∙ g in cc))
 
 -- a search that gives up has no report
-pub given_up : (d : Placement) (n : ℕ) (fault : SearchFault) (known : Reached) → IsGivenUp n fault → AreMet d n known
-    → IsSearchRefusal d n (search_refusal fault known)
-given_up d n search.Budget known h k = (tt, k)
-given_up d n (search.Shorter fewer) known h k = (h, k)
-given_up d n search.TooManyGames known h k = (tt, k)
-given_up d n search.Write known h k = tt
-given_up d n search.Memory known h k = tt
+pub given_up : (d : Placement) (n : ℕ) (fault : SearchFault) (known : Reached) (late : Bool) → IsGivenUp n fault → AreMet d n known
+    → IsSearchRefusal d n (search_refusal fault known late)
+given_up d n search.Budget known true h k = k
+given_up d n search.Budget known false h k = (tt, k)
+given_up d n (search.Shorter fewer) known late h k = (h, k)
+given_up d n search.TooManyGames known late h k = (tt, k)
+given_up d n search.Write known late h k = tt
+given_up d n search.Memory known late h k = tt
 
 -- and so it is where the check of what it wrote does not say yes
 pub unfound : (d : Placement) (n : ℕ) (list : List (List Move)) (t : Terms) (failed : Failures) (result : Result ℕ Refusal)

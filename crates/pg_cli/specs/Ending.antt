@@ -13,11 +13,13 @@ use Rattle.pg_cli.specs.declared.commands.Command.{Command}
 use Rattle.pg_cli.specs.declared.commands.Command.TheVariants.{Check, Search, Other}
 use Rattle.pg_cli.specs.declared.commands.OtherCommand.TheVariants.{Show, Moves, Count, Judge}
 use Rattle.pg_cli.specs.declared.refusals.Refusal.{Refusal}
-use Rattle.pg_cli.specs.declared.refusals.Refusal.TheVariants.{Minutes, NoName, Memory}
+use Rattle.pg_cli.specs.declared.refusals.Refusal.TheVariants.{Minutes, Nodes, Bytes, NoName, Memory}
 
 -- the words are not ready to be gone by, or memory was refused before a command was done
 abbrev pub IsUnready : Refusal → Type 0
 IsUnready Minutes = Unit {0}
+IsUnready Nodes = Unit {0}
+IsUnready Bytes = Unit {0}
 IsUnready (NoName name) = Unit {0}
 IsUnready Memory = Unit {0}
 IsUnready refusal = ⊥

@@ -1,6 +1,6 @@
 -- What a run of a command comes to, by its words, the bytes that it is told and its sink: what it has written where it
 -- has a status, as the sink below its buffer holds it before and after; and why it has none.
-use Rattle.std.specs.Prelude.{◌≡◌, ◌⊎◌, ℕ, ◌<◌, Bool, true, List, ◌++◌, Option, Some, Result, Ok, Err, IsUtf8, codes, length as length_of_list}
+use Rattle.std.specs.Prelude.{◌≡◌, ◌⊎◌, ℕ, ◌<◌, Bool, false, true, List, ◌++◌, Option, Some, Result, Ok, Err, IsUtf8, codes, length as length_of_list}
 use Rattle.std.specs.Fmt.{decimal}
 use Rattle.clap.specs.Words.{Row, first_of}
 use Rattle.pg_board.specs.Placement.{Placement}
@@ -54,7 +54,7 @@ use Rattle.pg_cli.specs.Refusals.{listing_refusal}
 use Rattle.pg_cli.specs.Words.{spelled, SpellsBoard}
 use Rattle.pg_cli.specs.declared.refusals.Reached.{Reached}
 use Rattle.pg_cli.specs.declared.refusals.Refusal.{Refusal}
-use Rattle.pg_cli.specs.declared.refusals.Refusal.TheVariants.{Open, NoGame, NotUtf8, Read, Write, Memory, Line as NoLine, Show, Moves, Count, Search, Full, GaveUp, Upgrade, Check, Answer, Tariffs}
+use Rattle.pg_cli.specs.declared.refusals.Refusal.TheVariants.{Open, NoGame, NotUtf8, Read, Write, Memory, Line as NoLine, Show, Moves, Count, Search, Full, Late, GaveUp, Upgrade, Check, Answer, Tariffs}
 
 -- ---- files and sinks
 -- a file is not opened, not read or not written, or memory was refused
@@ -233,11 +233,13 @@ IsUpgradeRefusal most known source sink out (Upgrade fault) =
 IsUpgradeRefusal most known source sink out refusal = ⊥
 
 -- ---- a search
--- the refusal that a fault of a search is, with what is known then
-abbrev pub search_refusal : SearchFault → Reached → Refusal
-search_refusal search.Write known = Search search.Write
-search_refusal search.Memory known = Search search.Memory
-search_refusal fault known = GaveUp fault known
+-- the refusal that a fault of a search is, with what is known then, and whether its time was over
+abbrev pub search_refusal : SearchFault → Reached → Bool → Refusal
+search_refusal search.Write known late = Search search.Write
+search_refusal search.Memory known late = Search search.Memory
+search_refusal search.Budget known true = Late known
+search_refusal search.Budget known false = GaveUp search.Budget known
+search_refusal fault known late = GaveUp fault known
 
 -- a search for games of n plies may give up at will, but where it says that it met a shorter one, of fewer
 abbrev pub IsGivenUp : ℕ → SearchFault → Type 0
@@ -248,12 +250,13 @@ IsGivenUp n fault = Unit {0}
 abbrev pub AreMet : Placement → ℕ → Reached → Type 0
 AreMet d n known = (list : List (List Move)) × AreSolutions d n list × (length_of_list list ≡ known.games)
 
--- a search for games of n plies that end on d has no report: it gave up, or its certificate would be too long, with
--- games that it met; or memory or a file was refused; or the games that it found are not listed, or the check of what it
+-- a search for games of n plies that end on d has no report: it gave up, its time was over, or its certificate would be
+-- too long, with games that it met; or memory or a file was refused; or the games that it found are not listed, or the check of what it
 -- wrote does not say yes, and a game that it calls unlisted, or of fewer plies, is there
 abbrev pub IsSearchRefusal : Placement → ℕ → Refusal → Type 0
 IsSearchRefusal d n (GaveUp fault known) = IsGivenUp n fault × AreMet d n known
 IsSearchRefusal d n (Full known) = AreMet d n known
+IsSearchRefusal d n (Late known) = AreMet d n known
 IsSearchRefusal d n (Search search.Write) = Unit {0}
 IsSearchRefusal d n (Search search.Memory) = Unit {0}
 IsSearchRefusal d n (Check (CheckFault fault)) = (list : List (List Move)) × Tells d n list (Err fault)

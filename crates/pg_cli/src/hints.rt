@@ -79,11 +79,23 @@ fn tell_known<R: Eprint>(rt: &R, words: &ArgMatches<'_>, fault: &SearchFault, kn
     tell(rt, &on_limit(known.nodes, known.tree, known.plies));
     tell(rt, &on_known(known.games));
     if *fault == SearchFault::Budget {
-        tell_further(rt, words);
-        let _ = eprintln!(rt;
-            "pg: try `pg cooks` with a game, `pg show DIAGRAM LENGTH` for a forecast, or more --nodes"
-        );
+        tell_ways(rt, words, "--nodes");
     }
+}
+
+// Says what may help a search with these words, which wants more of this.
+fn tell_ways<R: Eprint>(rt: &R, words: &ArgMatches<'_>, more: &str) {
+    tell_further(rt, words);
+    let _ = eprintln!(rt;
+        "pg: try `pg cooks` with a game, `pg show DIAGRAM LENGTH` for a forecast, or more {more}"
+    );
+}
+
+// Says what a search with these words knows whose time was over, and what to try.
+fn tell_late<R: Eprint>(rt: &R, words: &ArgMatches<'_>, known: &Reached) {
+    tell(rt, &on_limit(known.nodes, known.tree, known.plies));
+    tell(rt, &on_known(known.games));
+    tell_ways(rt, words, "--minutes");
 }
 
 // Says what a search knows whose certificate would be too long, and what to try.
@@ -134,6 +146,7 @@ pub(crate) fn advise<R: Runtime + AllocGlobal>(rt: &R, words: &ArgMatches<'_>, r
         Refusal::Open(_, obstacle) => tell_value(rt, *obstacle),
         Refusal::GaveUp(fault, known) => tell_known(rt, words, fault, known),
         Refusal::Full(known) => tell_full(rt, known),
+        Refusal::Late(known) => tell_late(rt, words, known),
         Refusal::NotUtf8 => tell_byte(rt, words),
         Refusal::Check(fault) => tell_check(rt, words, fault),
         Refusal::Answer(AnswerRunFault::Answer(AnswerFault::Check(fault))) => {

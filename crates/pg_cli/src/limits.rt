@@ -2,7 +2,7 @@
 
 use clap::ArgMatches;
 use clap::parser::ValueSource;
-use pg_streams::milliseconds_of;
+use pg_streams::{amount_of, milliseconds_of};
 
 // How far a search goes: the most nodes, the most milliseconds, if they are limited, and the most bytes of a certificate
 // that is written to a file.
@@ -21,10 +21,15 @@ fn milliseconds(words: &ArgMatches<'_>) -> Option<u64> {
     milliseconds_of(words.get_str("minutes")?)
 }
 
+// The number of nodes or of bytes that the word with this name says; the usual one where there is no such word.
+pub(crate) fn amount(words: &ArgMatches<'_>, name: &str, usual: u64) -> u64 {
+    words.get_str(name).and_then(amount_of).unwrap_or(usual)
+}
+
 // How far the words let a search go: with minutes and no number of nodes, so far as the time reaches.
 pub(crate) fn reach_of(words: &ArgMatches<'_>, usual: u64) -> Reach {
     let milliseconds = milliseconds(words);
-    let nodes = words.get_one::<u64>("nodes").unwrap_or(usual);
+    let nodes = amount(words, "nodes", usual);
     let is_said = words.value_source("nodes") == Some(ValueSource::CommandLine);
     Reach {
         nodes: if milliseconds.is_some() && !is_said {
@@ -33,7 +38,7 @@ pub(crate) fn reach_of(words: &ArgMatches<'_>, usual: u64) -> Reach {
             nodes
         },
         milliseconds,
-        bytes: words.get_one::<u64>("bytes").unwrap_or(BYTES),
+        bytes: amount(words, "bytes", BYTES),
     }
 }
 
@@ -41,6 +46,14 @@ pub(crate) fn reach_of(words: &ArgMatches<'_>, usual: u64) -> Reach {
 pub(crate) fn are_minutes(words: &ArgMatches<'_>) -> bool {
     match words.get_str("minutes") {
         Some(minutes) => milliseconds_of(minutes).is_some(),
+        None => true,
+    }
+}
+
+// Whether the number of nodes or of bytes that a command's word with this name may say is one.
+pub(crate) fn is_amount(words: &ArgMatches<'_>, name: &str) -> bool {
+    match words.get_str(name) {
+        Some(number) => amount_of(number).is_some(),
         None => true,
     }
 }

@@ -41,7 +41,7 @@ use crate::asked::{Asked, asked_by};
 use crate::bounds::{journeys_to, tolls_to, travel_to};
 use crate::commands::{Command, OtherCommand, ProblemCommand};
 use crate::hints::{advise, advise_words};
-use crate::limits::are_minutes;
+use crate::limits::{are_minutes, is_amount};
 use crate::refusals::{BAD_INPUT, DONE, NO_FILE, Refusal, refuse};
 use crate::screen::{Screen, is_dumb};
 use crate::spelling::{nameless_in, say_journeys, say_no_journeys, say_tolls, text_of};
@@ -100,12 +100,19 @@ fn goes_by_journeys<F>(asked: &Asked<F>, words: &ArgMatches<'_>) -> bool
 // Whether the words are ready to be gone by.
 //
 // # Errors
-// `Minutes` where their number of minutes is none, then `NoName` where a word that is to name a file is empty.
+// `Minutes` where their number of minutes is none, `Nodes` and `Bytes` likewise, then `NoName` where a word that is to
+// name a file is empty.
 fn ready(words: &ArgMatches<'_>) -> Result<(), Refusal>
     ensures { IfErr result IsUnready }
 {
     if !are_minutes(words) {
         return Err(Refusal::Minutes);
+    }
+    if !is_amount(words, "nodes") {
+        return Err(Refusal::Nodes);
+    }
+    if !is_amount(words, "bytes") {
+        return Err(Refusal::Bytes);
     }
     match nameless_in(words) {
         Some(named) => Err(Refusal::NoName(named)),

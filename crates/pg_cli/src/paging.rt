@@ -11,6 +11,7 @@ ghost use Rattle.pg_cli.specs.Runs.{IsPageRefusal, page_refusal};
 ghost use Rattle.pg_cli.specs.Words.{ByRecords, spelled};
 
 use crate::checking::finished;
+use crate::limits::amount;
 use crate::refusals::{DONE, Refusal};
 use crate::spelling::{records_of, text_of};
 use clap::ArgMatches;
@@ -66,7 +67,7 @@ pub(crate) fn page_on<S: Source, W: Sink>(
         opened.old.diagram opened.old.plies
         (failures (S.has_failed source.new) (⟦<Gathered<W> as Sink>⟧.has_failed out.new)) refusal)) }
 {
-    let nodes = words.get_one::<u64>("nodes").unwrap_or(NODES);
+    let nodes = amount(words, "nodes", NODES);
     let records = records_of(words);
     let caption = Caption {
         title: text_of(words, "title"),

@@ -102,6 +102,12 @@ pub(crate) enum Refusal {
     /// A number of minutes is none.
     #[error("bad number of minutes")]
     Minutes,
+    /// A number of nodes is none.
+    #[error("bad number of nodes: it is as 1000000, 250k, 10M, 2G or 1e6")]
+    Nodes,
+    /// A number of bytes is none.
+    #[error("bad number of bytes: it is as 1000000, 250k, 10M, 2G or 1e6")]
+    Bytes,
     /// A file cannot be opened, created or put in its place, or must not be written: which word names it, and what
     /// stands in the way. Its name stands behind the text.
     #[error("cannot open ")]
@@ -142,6 +148,9 @@ pub(crate) enum Refusal {
     /// The certificate of a search would have more bytes than it may, and so much is known.
     #[error("certificate limit reached")]
     Full(Reached),
+    /// The time of a search was over, and so much is known.
+    #[error("time limit reached")]
+    Late(Reached),
     /// The search gave up, and so much is known.
     #[error("{0}")]
     GaveUp(SearchFault, Reached),
@@ -209,9 +218,9 @@ impl Refusal {
     {
         match self {
             Refusal::Open(_, _) | Refusal::NoName(_) | Refusal::Read | Refusal::Write => FILES,
-            Refusal::Full(_) => GAVE_UP,
+            Refusal::Full(_) | Refusal::Late(_) => GAVE_UP,
             Refusal::Words | Refusal::Line | Refusal::NoGame | Refusal::NotUtf8 => BAD_INPUT,
-            Refusal::Minutes => BAD_INPUT,
+            Refusal::Minutes | Refusal::Nodes | Refusal::Bytes => BAD_INPUT,
             Refusal::Memory => MEMORY,
             Refusal::Show(fault) => show_status(fault),
             Refusal::Moves(fault) => moves_status(fault),

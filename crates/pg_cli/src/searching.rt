@@ -48,13 +48,14 @@ pub(crate) struct Means<'a> {
 }
 
 // What a search came to: what it found, the games or tariffs, or why it has none; the games that it met, each tested;
-// how far it came; and whether the certificate had no more room.
+// how far it came; whether the certificate had no more room; and whether the time was over.
 #[derive(Drop)]
 pub(crate) struct Searched<T> {
     found: Result<T, SearchFault>,
     met: Games,
     known: Reached,
     is_full: bool,
+    is_late: bool,
 }
 
 // How a search ended, as `Met` was told: whether memory was refused for a game, the tree at work, and how many nodes
@@ -144,6 +145,7 @@ pub(crate) fn search_to<R: Runtime + AllocGlobal, W: Write + Drop>(
         &mut met,
     );
     let (is_short, tree, left) = (met.is_short, met.tree, met.left);
+    let is_late = timed.is_late();
     timed.line.end();
     let ended = Ended {
         is_short,
@@ -156,6 +158,7 @@ pub(crate) fn search_to<R: Runtime + AllocGlobal, W: Write + Drop>(
             met: games,
             known,
             is_full: sink.into_inner().is_full(),
+            is_late,
         }),
         Err(refusal) => Err(refusal),
     }
@@ -191,6 +194,7 @@ fn find_to<R: Runtime + AllocGlobal>(
         &mut met,
     );
     let (is_short, tree, left) = (met.is_short, met.tree, met.left);
+    let is_late = timed.is_late();
     timed.line.end();
     let ended = Ended {
         is_short,
@@ -203,19 +207,30 @@ fn find_to<R: Runtime + AllocGlobal>(
             met: games,
             known,
             is_full: false,
+            is_late,
         }),
         Err(refusal) => Err(refusal),
     }
 }
 
-// Why a search has no certificate, with what is known then.
-fn gave_up(fault: SearchFault, known: Reached) -> Refusal
-    ensures { result ≡ search_refusal fault known }
+// Why a search has no certificate that was ended by its nodes or by its time.
+fn ended_early(known: Reached, is_late: bool) -> Refusal
+    ensures { result ≡ search_refusal SearchFault.Budget known is_late }
+{
+    if is_late {
+        Refusal::Late(known)
+    } else {
+        Refusal::GaveUp(SearchFault::Budget, known)
+    }
+}
+
+// Why a search has no certificate, with what is known then, and whether its time was over.
+fn gave_up(fault: SearchFault, known: Reached, is_late: bool) -> Refusal
+    ensures { result ≡ search_refusal fault known is_late }
 {
     match fault {
-        SearchFault::Budget | SearchFault::Shorter(_) | SearchFault::TooManyGames => {
-            Refusal::GaveUp(fault, known)
-        }
+        SearchFault::Budget => ended_early(known, is_late),
+        SearchFault::Shorter(_) | SearchFault::TooManyGames => Refusal::GaveUp(fault, known),
         SearchFault::Write | SearchFault::Memory => Refusal::Search(fault),
     }
 }
@@ -290,6 +305,7 @@ where
         met,
         known,
         is_full,
+        is_late,
     } = searched;
     match write_list(problem, &met, &mut drafts.list) {
         Ok(()) => {}
@@ -298,7 +314,7 @@ where
     let games = match found {
         Ok(games) => games,
         Err(_) if is_full => return Err(Refusal::Full(known)),
-        Err(fault) => return Err(gave_up(fault, known)),
+        Err(fault) => return Err(gave_up(fault, known, is_late)),
     };
     let size = drafts.certificate.file.seek(SeekFrom::End(0)).ok();
     let lead = lead_of(means.tariffs);
@@ -411,7 +427,7 @@ fn put_both<R: Runtime + AllocGlobal>(rt: &R, drafts: Drafts<R::File>) -> Result
 // Whether a search gave up and had met games.
 fn has_games(refusal: &Refusal) -> bool {
     match refusal {
-        Refusal::GaveUp(_, known) | Refusal::Full(known) => known.games > 0,
+        Refusal::GaveUp(_, known) | Refusal::Full(known) | Refusal::Late(known) => known.games > 0,
         _ => false,
     }
 }
@@ -514,11 +530,12 @@ pub(crate) fn find_for<R: Runtime + AllocGlobal>(
         found,
         met,
         known,
+        is_late,
         ..
     } = searched;
     match found {
         Ok(found) => stating_some(rt.alloc(), found.tariffs.as_slice()),
-        Err(fault) => Err(keep_met(rt, words, problem, &met, gave_up(fault, known))),
+        Err(fault) => Err(keep_met(rt, words, problem, &met, gave_up(fault, known, is_late))),
     }
 }
 

@@ -1,3 +1,4 @@
+pub mod Amounts
 pub mod Buffer
 pub mod Ending
 pub mod Room

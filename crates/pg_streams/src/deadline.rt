@@ -1,6 +1,6 @@
 //! A run that ends when its time is over.
 ghost use Rattle.std.specs.Prelude.{◌≡◌, false, IsTrue};
-ghost use Rattle.pg_streams.specs.Ending.{has_ended};
+ghost use Rattle.pg_streams.specs.Ending.{has_ended, is_late};
 
 use pg_position::Move;
 use pg_searcher::{LedProgress, SearchProgress};
@@ -42,7 +42,8 @@ fn number_and_unit(text: &str) -> (&str, u64) {
     }
 }
 
-fn are_digits(text: &str) -> bool {
+// Whether a text is decimal digits.
+pub(crate) fn are_digits(text: &str) -> bool {
     !text.is_empty() && text.bytes().all(|byte| byte.is_ascii_digit())
 }
 
@@ -140,6 +141,15 @@ impl<'a, P, R> Timed<'a, P, R> {
     /// Of a search that has this deadline.
     pub fn new(line: P, deadline: Deadline<'a, R>) -> Timed<'a, P, R> {
         Timed { line, deadline }
+    }
+}
+
+impl<P, R: Clock> Timed<'_, P, R> {
+    /// Whether the time was over when the clock was last asked.
+    pub fn is_late(&self) -> bool
+        ensures { result ≡ is_late self.now }
+    {
+        self.deadline.has_ended()
     }
 }
 

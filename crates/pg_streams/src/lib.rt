@@ -2,6 +2,7 @@
 //! terminal that says how far a run is, and the end of its time.
 #![tactic(auto)]
 
+mod amounts;
 mod deadline;
 mod gathered;
 mod judged;
@@ -14,6 +15,7 @@ mod runs;
 mod trees;
 mod until;
 
+pub use amounts::amount_of;
 pub use deadline::{Deadline, Timed, milliseconds_of};
 pub use gathered::Gathered;
 pub use judged::{JudgeLine, judge_line};

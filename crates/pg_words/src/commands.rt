@@ -10,6 +10,8 @@ ends on a diagram, and no shorter game does";
 const EXAMPLE: &str = "Example, a problem by Schweig (1938):
   pg solve r1bqkbnr/ppp2ppp/3p4/8/8/8/PPPPPPPP/R1BQKBNR 4.0
 
+A number of nodes or bytes may be as 250k, 10M, 2G or 1e6.
+
 Statuses: 0 sound, or a command done; 1 cooked, no game, not sound, a list or
 certificate refused, or a search that gave up; 2 bad words or texts; 3 out of
 memory; 4 a file that cannot be opened, created, read or written.";
@@ -144,6 +146,9 @@ enum Kind {
     /// A number behind the name of the word, from the least one up: what it is called, the one that is usual, and the
     /// least.
     Limit(&'static str, &'static str, u64),
+    /// A number of nodes or of bytes behind the name of the word, which the program reads: what it is called, and the
+    /// one that is usual.
+    Amount(&'static str, &'static str),
     /// A number behind the name of the word, 255 at most, which may be missing: what it is called.
     NumberOrNone(&'static str),
     /// A text behind the name of the word, which may be missing: what it is called.
@@ -249,21 +254,21 @@ const RECORDS: Word = Word {
 
 const NODES: Word = Word {
     name: "nodes",
-    kind: Kind::Limit("N", "1000000", 0),
+    kind: Kind::Amount("N", "1000000"),
     help: "Gives up before more nodes are visited",
 };
 
 // The nodes of `pg cooks`.
 const NODES_LED: Word = Word {
     name: "nodes",
-    kind: Kind::Limit("N", "10000000", 0),
+    kind: Kind::Amount("N", "10000000"),
     help: "Gives up where more would be visited",
 };
 
 // The nodes of `pg page`.
 const NODES_TOLD: Word = Word {
     name: "nodes",
-    kind: Kind::Limit("K", "20000", 0),
+    kind: Kind::Amount("K", "20000"),
     help: "The most expanded nodes that are shown",
 };
 
@@ -282,7 +287,7 @@ const AUTHOR: Word = Word {
 // The nodes of `pg judge`.
 const NODES_JUDGED: Word = Word {
     name: "nodes",
-    kind: Kind::Limit("N", "100000000", 0),
+    kind: Kind::Amount("N", "100000000"),
     help: "The last limit of a search",
 };
 
@@ -301,14 +306,14 @@ const MINUTES_JUDGED: Word = Word {
 
 const BYTES: Word = Word {
     name: "bytes",
-    kind: Kind::Limit("N", "4000000000", 0),
+    kind: Kind::Amount("N", "4000000000"),
     help: "Gives up before CERT is longer",
 };
 
 // The bytes of `pg judge`.
 const BYTES_JUDGED: Word = Word {
     name: "bytes",
-    kind: Kind::Limit("N", "4000000000", 0),
+    kind: Kind::Amount("N", "4000000000"),
     help: "Most bytes of a certificate",
 };
 
@@ -563,6 +568,7 @@ fn arg_of<'a>(alloc: Global, word: &Word) -> Arg<'a> {
             .value_name(called)
             .default_value(usual)
             .value_parser(ValueParser::unsigned(least, u64::MAX)),
+        Kind::Amount(called, usual) => arg.long(word.name).value_name(called).default_value(usual),
         Kind::NumberOrNone(called) => arg
             .long(word.name)
             .value_name(called)

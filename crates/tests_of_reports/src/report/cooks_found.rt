@@ -223,7 +223,7 @@ fn refused_growths_of_a_game_that_is_found(rt: HostRuntime) {
         };
         let (answer, bytes) = beside_one_order(rt.alloc(), &listed);
         match answer {
-            Ok(CookAnswer::Cook(_)) => assert_eq!(rt; bytes, 128),
+            Ok(CookAnswer::Cook(_)) => assert_eq!(rt; bytes, 209),
             Ok(_) => panic!(rt; "another answer"),
             Err(fault) => {
                 assert!(rt; fault == CooksRunFault::Cooks(CooksFault::Memory));

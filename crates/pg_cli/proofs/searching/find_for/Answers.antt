@@ -14,4 +14,4 @@ returns g c =
     let n = c.args.problem.now.length in
     let given = subst (λ (r : Result FoundTariffs SearchFault). IfErr r (λ fault. IsGivenUp n fault)) c.in-Err-found.is c.in-Ok-find_to.ensures.found in
     kept_so d n c.keep_met.result c.gave_up.result c.keep_met.ensures
-    (subst (λ (r : Refusal). IsSearchRefusal d n r) (sym c.gave_up.ensures) (given_up d n c.in-Err-found.fault _ given c.in-Ok-find_to.ensures.met))
+    (subst (λ (r : Refusal). IsSearchRefusal d n r) (sym c.gave_up.ensures) (given_up d n c.in-Err-found.fault _ _ given c.in-Ok-find_to.ensures.met))
