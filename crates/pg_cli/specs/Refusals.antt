@@ -11,7 +11,7 @@ use Rattle.pg_tariff_files.specs.declared.fault.CarriedFault.{CarriedFault}
 use Rattle.pg_tariff_files.specs.declared.fault.CarriedFault.TheVariants as carried
 use Rattle.pg_cli.specs.declared.refusals.Named.{Named}
 use Rattle.pg_cli.specs.declared.refusals.Refusal.{Refusal}
-use Rattle.pg_cli.specs.declared.refusals.Refusal.TheVariants.{Words, Minutes, Nodes, Bytes, Open, NoName, Line, NoGame, NotUtf8, Read, Write, Memory, Show, Moves, Count, Search, Full, Late, GaveUp, Upgrade, Check, Answer, Tariffs}
+use Rattle.pg_cli.specs.declared.refusals.Refusal.TheVariants.{Words, Minutes, Nodes, Bytes, OnTerminal, Open, NoName, Line, NoGame, NotUtf8, Read, Write, Memory, Show, Moves, Count, Search, Full, Late, GaveUp, Upgrade, Check, Answer, Tariffs}
 
 -- that of a file whose tariffs are not read
 abbrev pub tariffs_status : CarriedFault → ℕ
@@ -26,6 +26,7 @@ refusal_status Words = 2
 refusal_status Minutes = 2
 refusal_status Nodes = 2
 refusal_status Bytes = 2
+refusal_status OnTerminal = 2
 refusal_status (Open name obstacle) = 4
 refusal_status (NoName name) = 4
 refusal_status Line = 2

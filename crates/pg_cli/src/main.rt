@@ -2,7 +2,7 @@
 //! `pg show DIAGRAM [LENGTH]`, `pg moves FEN`, `pg count FEN PLIES`, `pg games DIAGRAM LENGTH [GAMES]`, `pg cooks
 //! DIAGRAM LENGTH GAMES [--nodes N] [--foreign D]`, `pg check DIAGRAM LENGTH CERT [GAMES] [--records N]`, `pg answer
 //! CERT [--records N]`, `pg search DIAGRAM LENGTH CERT [--nodes N] [--games FILE]`, `pg judge PROBLEMS [--certificates
-//! FOLDER] [--nodes N]`, `pg why CERT MOVES [--records N]`, `pg page CERT [--records N] [--nodes K]` and `pg upgrade
+//! FOLDER] [--nodes N]`, `pg why CERT MOVES [--records N]`, `pg page CERT [--out FILE] [--nodes K]` and `pg upgrade
 //! OLD NEW [--records N]`; `--journeys` and `--tolls` stand behind `check` and `search`, `--minutes M` behind `cooks`,
 //! `search`, `solve` and `judge`. docs/FORMATS.md has all words.
 #![tactic(auto)]
@@ -210,7 +210,7 @@ fn serve<R: Runtime + AllocGlobal, F: Read + Drop>(
             searching::search(rt, words, problem, tariffs, bounds, screen.lines)
         }
         Asked::File(command, mut certificate) => {
-            tell(rt, command, words, &mut certificate, bounds, screen.lines)
+            tell(rt, command, words, &mut certificate, bounds, screen)
         }
         Asked::Other(command) => other(rt, command, words, bounds, screen),
     }

@@ -60,6 +60,8 @@ pub(crate) enum Named {
     Folder,
     /// The certificate that is kept of a problem that is solved.
     Proof,
+    /// The page that is written.
+    Page,
 }
 
 impl Named {
@@ -74,6 +76,7 @@ impl Named {
             Named::Problems => "PROBLEMS",
             Named::Folder => "certificates",
             Named::Proof => "keep",
+            Named::Page => "out",
         }
     }
 }
@@ -85,6 +88,7 @@ impl Display for Named {
             Named::Kept => f.write_str("--games"),
             Named::Folder => f.write_str("--certificates"),
             Named::Proof => f.write_str("--keep"),
+            Named::Page => f.write_str("--out"),
             named => f.write_str(named.word()),
         }
     }
@@ -112,6 +116,9 @@ pub(crate) enum Refusal {
     /// stands in the way. Its name stands behind the text.
     #[error("cannot open ")]
     Open(Named, Obstacle),
+    /// A page would stand on a terminal.
+    #[error("standard output is a terminal: say --out FILE")]
+    OnTerminal,
     /// A word that is to name a file or a folder is empty.
     #[error("cannot open {0}: the word is empty")]
     NoName(Named),
@@ -221,6 +228,7 @@ impl Refusal {
             Refusal::Full(_) | Refusal::Late(_) => GAVE_UP,
             Refusal::Words | Refusal::Line | Refusal::NoGame | Refusal::NotUtf8 => BAD_INPUT,
             Refusal::Minutes | Refusal::Nodes | Refusal::Bytes => BAD_INPUT,
+            Refusal::OnTerminal => BAD_INPUT,
             Refusal::Memory => MEMORY,
             Refusal::Show(fault) => show_status(fault),
             Refusal::Moves(fault) => moves_status(fault),

@@ -65,7 +65,8 @@ fn write_caption<W: Sink>(caption: &Caption<'_>, length: &str, out: &mut W) -> R
 // Appends the style and the title of the document, up to the problem's diagram.
 fn write_named<W: Sink>(caption: &Caption<'_>, length: &str, out: &mut W) -> Result<(), Refused>
     ensures { Pushes W.held W.has_failed
-        (Adds (named_text (caption_text caption.now.title.now caption.now.author.now length.now))) out.old out.new result }
+        (Adds (named_text (caption_text caption.now.title.now caption.now.author.now length.now)))
+        out.old out.new result }
 {
     out.push(BEGIN.as_bytes())?;
     out.push(b"<title>")?;
@@ -76,7 +77,8 @@ fn write_named<W: Sink>(caption: &Caption<'_>, length: &str, out: &mut W) -> Res
 // Appends the drawings of the men, and the heading.
 fn write_headed<W: Sink>(caption: &Caption<'_>, length: &str, out: &mut W) -> Result<(), Refused>
     ensures { Pushes W.held W.has_failed
-        (Adds (headed_text (caption_text caption.now.title.now caption.now.author.now length.now))) out.old out.new result }
+        (Adds (headed_text (caption_text caption.now.title.now caption.now.author.now length.now)))
+        out.old out.new result }
 {
     out.push(MEN.as_bytes())?;
     out.push(b"<h1>")?;
@@ -276,8 +278,8 @@ pub(crate) fn write_head<W: Sink>(
     answer: &Answer,
     out: &mut W,
 ) -> Result<(), Refused>
-    ensures { Pushes W.held W.has_failed
-        (AddsSome (IsHead problem.now.diagram problem.now.length caption.now.title.now caption.now.author.now answer.now))
+    ensures { Pushes W.held W.has_failed (AddsSome
+        (IsHead problem.now.diagram problem.now.length caption.now.title.now caption.now.author.now answer.now))
         out.old out.new result }
 {
     write_front(problem, caption, out)?;

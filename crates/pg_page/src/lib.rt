@@ -10,6 +10,7 @@ mod heading;
 mod lines;
 mod log;
 mod paging;
+mod reasons;
 mod script;
 mod style;
 mod telling;

@@ -130,8 +130,9 @@ fn write_page<W: Sink>(
 }
 
 /// Checks a certificate that was opened, and writes a page that shows it: one file of HTML, which needs nothing else,
-/// with the title and the author of `caption`, and at most `nodes` expanded nodes of the tree of the stated length, and of the shorter ones together. `tariffs` are
-/// those of the bounds with the codes from `Tolls::FIRST_CODE` on, in their order, for the words of their cuts.
+/// with the title and the author of `caption`, and at most `nodes` expanded nodes of the tree of the stated length, and
+/// of the shorter ones together. `tariffs` are those of the bounds with the codes from `Tolls::FIRST_CODE` on, in their
+/// order, for the words of their cuts.
 /// docs/FORMATS.md says what stands there. Ok means that some list of games is the exact answer to the problem of the
 /// header, that the certificate proves it, and that the page begins with the head of just that answer: the caption, the
 /// diagram, the verdict, what was checked, and each game. No clause speaks of what follows. Nothing is written before
@@ -161,7 +162,8 @@ pub fn page<R: Source, W: Sink>(
         opened.old.diagram opened.old.plies) }
     ensures head { OnOk result (IsShown
         (terms (rules_by code_of excluded bounds.now) max_records max_named (bytes_of opened.old (R.left source.old)))
-        opened.old.diagram opened.old.plies caption.now.title.now caption.now.author.now (W.held out.old) (W.held out.new)) }
+        opened.old.diagram opened.old.plies caption.now.title.now caption.now.author.now
+        (W.held out.old) (W.held out.new)) }
     ensures silent { (W.held out.new ≡ W.held out.old) ⊎ HasAnswer
         (terms (rules_by code_of excluded bounds.now) max_records max_named (bytes_of opened.old (R.left source.old)))
         opened.old.diagram opened.old.plies }

@@ -31,7 +31,7 @@ pub(crate) const SCRIPT: &str = "'use strict';
   var words = element('phrases').dataset;
   var problem = document.body.dataset, plies = +problem.plies;
   var lines = element('trees').textContent.split('\\n');
-  var nodes = {}, named = {}, roots = {}, counts = {};
+  var nodes = {}, named = {}, roots = {}, counts = {}, reasons = {};
   var games = [], chosen = 0, path = [], isFlipped = false, marked = null;
 
   function element(id) { return document.getElementById(id); }
@@ -46,7 +46,8 @@ pub(crate) const SCRIPT: &str = "'use strict';
   // ---- The trees. An expanded node is kept by the number of its line; other nodes are read where they are shown.
 
   function fold() {
-    var tree = 0, open = [], i, first, last, node;
+    var tree = 0, open = [], kept = [], i, first, last, node, cut;
+    kept.count = 0;
     for (i = 0; i < lines.length; i++) {
       first = lines[i].charAt(0);
       last = lines[i].slice(-1);
@@ -57,8 +58,17 @@ pub(crate) const SCRIPT: &str = "'use strict';
         node = { line: i, end: lines.length, up: open[open.length - 1], isTold: last === '(', games: 0 };
         nodes[i] = node;
         open.push(node);
-      } else if (last === '*' && open.length) { open[open.length - 1].games++; }
+      } else if (last === '*' && open.length) { open[open.length - 1].games++;
+      } else if ((cut = /^[^(.,*@:]*:[0-9]+(.+)$/.exec(lines[i]))) { reasons[i] = reasonOf(kept, cut[1]); }
     }
+  }
+
+  // The reason that a cut has: its words, or where they stand among those of the last 64 different ones.
+  function reasonOf(kept, words) {
+    if (words.charAt(0) === '~') return kept[+words.slice(1)];
+    kept[kept.count % 64] = words;
+    kept.count++;
+    return words;
   }
 
   function close(open, i) {
@@ -79,7 +89,7 @@ pub(crate) const SCRIPT: &str = "'use strict';
   // What a line says: the move, the mark behind it, what stands behind the mark, and the expanded node, if it is one.
   function entryAt(i, isRoot) {
     var parts = isRoot ? ['', '', lines[i]] : /^([^(.,*@:]+)(.*)$/.exec(lines[i]);
-    return { move: moveOf(parts[1]), mark: parts[2].charAt(0), rest: parts[2].slice(1), node: nodes[i] };
+    return { line: i, move: moveOf(parts[1]), mark: parts[2].charAt(0), rest: parts[2].slice(1), node: nodes[i] };
   }
 
   function children(node) {
@@ -143,9 +153,9 @@ pub(crate) const SCRIPT: &str = "'use strict';
   }
 
   function wordsOf(entry) {
-    var cut = /^([0-9]*)(.*)$/.exec(entry.rest), cited = named[entry.rest];
+    var reason = reasons[entry.line], cited = named[entry.rest];
     if (entry.node) return entry.node.words;
-    if (entry.mark === ':') return cut[2] ? words.excluded + cut[2] : words.cut + cut[1] + words.unseen;
+    if (entry.mark === ':') return reason ? words.excluded + reason : words.cut + entry.rest + words.unseen;
     if (entry.mark === '*') return words.solution;
     if (entry.mark === ',') return words.elsewhere;
     return words.as + (cited ? after(lineOf(cited)) : words.after + 'moves that this page does not have') + words.barren;
@@ -183,13 +193,15 @@ pub(crate) const SCRIPT: &str = "'use strict';
   // Where a square stands on the drawing, whose corner at the top left is a8, or h1 where it is turned.
   function placeOf(square) {
     var file = square % 8, rank = Math.floor(square / 8);
-    return ' x=\"' + (isFlipped ? 7 - file : file) + '\" y=\"' + (isFlipped ? rank : 7 - rank) + '\" width=\"1\" height=\"1\"/>';
+    return ' x=\"' + (isFlipped ? 7 - file : file) + '\" y=\"' + (isFlipped ? rank : 7 - rank) + \
+        '\" width=\"1\" height=\"1\"/>';
   }
 
   // The digits of the ranks and the letters of the files on a board that is turned.
   function turnedLabels() {
     return 'hgfedcba'.split('').map(function (file, i) {
-      return '<text x=\"-.25\" y=\"' + (i + .62) + '\">' + (i + 1) + '</text><text x=\"' + (i + .5) + '\" y=\"8.38\">' + file + '</text>';
+      return '<text x=\"-.25\" y=\"' + (i + .62) + '\">' + (i + 1) + '</text>' +
+        '<text x=\"' + (i + .5) + '\" y=\"8.38\">' + file + '</text>';
     }).join('');
   }
 
@@ -200,8 +212,9 @@ pub(crate) const SCRIPT: &str = "'use strict';
       return man === '.' ? '' : '<use class=\"' + color + '\" href=\"#m' + kind + '\"' + placeOf(i);
     });
     var marks = (last ? [last.from, last.to] : []).map(function (i) { return '<rect class=\"last\"' + placeOf(i); });
-    var ground = isFlipped ? '<use href=\"#field\"/><g class=\"labels\">' + turnedLabels() + '</g>' : '<use href=\"#squares\"/>';
-    return '<svg class=\"board\" viewBox=\"-.5 0 8.5 8.5\" role=\"img\" aria-label=\"' + placementOf(board) + '\">' + ground +
+    var turned = '<use href=\"#field\"/><g class=\"labels\">' + turnedLabels() + '</g>';
+    return '<svg class=\"board\" viewBox=\"-.5 0 8.5 8.5\" role=\"img\" aria-label=\"' + placementOf(board) + \
+        '\">' + (isFlipped ? turned : '<use href=\"#squares\"/>') +
       marks.join('') + men.join('') + '</svg>';
   }
 

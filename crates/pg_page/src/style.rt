@@ -25,7 +25,8 @@ button:disabled { color: #999; border-color: #bbb; cursor: default; }
 button:hover:enabled, button:focus-visible { background: #dde6f2; }
 #bar button { min-width: 3em; margin-top: .5em; }
 #line button, .move { padding: .1em .4em; margin: .1em 0; }
-#games li { margin: .3em 0; } #games button { padding: .1em .15em; border-color: transparent; background: none; }
+#games li { margin: .3em 0; } #games li::marker { content: '(' counter(list-item) ') '; color: #444; }
+#games li:only-child { list-style: none; } #games button { padding: .1em .15em; border-color: transparent; background: none; }
 #games .here { background: #f0dc92; } details > #games { max-height: 22em; overflow: auto; }
 .rows { list-style: none; padding: 0; } .rows li { display: flex; align-items: baseline; padding: .15em 0; \
 border-bottom: 1px solid #ddd; }
@@ -35,7 +36,7 @@ summary { cursor: pointer; padding: .3em 0; } .small { font-size: .85em; color: 
 #proof { clear: both; } }
 @media (max-width: 40em) { #games button, .move, #line button { padding: .4em .5em; } summary { padding: .6em 0; } }
 @media print { h1, h2 { break-after: avoid; } #bar, .hint { display: none; } button { border: none; background: none; \
-padding: 0 .3em; } .board { max-width: 9cm; } }
+padding: 0 .3em; } details > #games { max-height: none; } .board { max-width: 9cm; } }
 </style>
 ";
 

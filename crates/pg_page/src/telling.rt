@@ -8,6 +8,7 @@ ghost use Rattle.pg_page.specs.Lines.{leaf_mark};
 use crate::floors::Tree;
 use crate::lines::{MoveText, move_text, write_escaped};
 use crate::log::{Item, Log, Said, read_lists};
+use crate::reasons::Reasons;
 use arrayvec::{ArrayString, ArrayVec};
 use pg_certificate::{Bare, Refused, Sink};
 use pg_fen::Diagram;
@@ -31,7 +32,7 @@ struct Lines {
 }
 
 // What is told: the trees of a diagram, so deep; the tree at work, the positions of its open nodes, the price lists of
-// the last record, and what is known of the diagram's distances and by tariffs.
+// the last record, what is known of the diagram's distances and by tariffs, and the reasons that were told last.
 #[derive(Drop)]
 struct Told<'a> {
     diagram: &'a Diagram,
@@ -40,6 +41,7 @@ struct Told<'a> {
     prices: Prices,
     distances: GrowingDistances,
     fares: GrowingFares<'a>,
+    reasons: Reasons,
 }
 
 // The position of an open node, and what its children are, so far as they were told.
@@ -111,6 +113,17 @@ fn put_opened(told: &mut Told, left: u8, node: &Reached, text: &mut Text) {
     put_all(text, &[node.text.as_str(), mark]);
 }
 
+// In place of a reason that is known stands where.
+fn put_known(reasons: &mut Reasons, lines: &mut Lines) {
+    if lines.words.is_empty() {
+        return;
+    }
+    if let Some(place) = reasons.meet(&lines.words) {
+        lines.words.clear();
+        put_marked(&mut lines.text, "~", place as u64);
+    }
+}
+
 // Tells of a node with nothing below it, and why it is cut. Its price lists, where it has any, are those that were read
 // last.
 fn put_ended(told: &mut Told, left: u8, reached: &Reached, said: &Bare, lines: &mut Lines) {
@@ -131,6 +144,7 @@ fn put_ended(told: &mut Told, left: u8, reached: &Reached, said: &Bare, lines: &
             .put_reason_of_cut(&node, said, &told.prices, words),
     };
     put_code(&mut lines.text, code);
+    put_known(&mut told.reasons, lines);
 }
 
 // A node with this record is a child of the topmost open one, which counts it.
@@ -280,7 +294,8 @@ fn write_lines<W: Sink>(lines: &Lines, out: &mut W) -> Result<(), Refused>
 }
 
 // Appends the trees that were met, the shorter ones first, each between a line with its plies and one with the number
-// of its expanded nodes. Only tables of tariffs take memory; where it is refused, a cut by one is not seen to exclude.
+// of its expanded nodes. Tables of tariffs and known reasons alone take memory; where it is refused, a cut by a tariff is
+// not seen to exclude, and reasons are told in full.
 pub(crate) fn tell<W: Sink>(diagram: &Diagram, log: &Log<'_>, out: &mut W) -> Result<(), Refused>
     ensures { MayPush W.held W.has_failed Grows out.old out.new result }
 {
@@ -294,6 +309,7 @@ pub(crate) fn tell<W: Sink>(diagram: &Diagram, log: &Log<'_>, out: &mut W) -> Re
         prices: Prices::new(&[], &[]).unwrap(),
         distances: GrowingDistances::new(diagram),
         fares: GrowingFares::new(log.alloc, diagram, log.tariffs),
+        reasons: Reasons::new(log.alloc),
     };
     let mut lines = Lines {
         text: Text::new(),

@@ -123,7 +123,7 @@ proved.
 
 Example, with a certificate that a search writes first:
   pg search rnbqkbnr/pppp1ppp/8/4p3/4P3/8/PPPP1PPP/RNBQKBNR 1.0 e4e5.pgc
-  pg page e4e5.pgc --title 'Open game' >e4.html";
+  pg page e4e5.pgc --out e4.html --title 'Open game'";
 
 const UPGRADE_EXAMPLE: &str =
     "The copy says what the old one says. It is put in its place when it is whole.
@@ -276,6 +276,12 @@ const TITLE: Word = Word {
     name: "title",
     kind: Kind::Named("TEXT"),
     help: "The title of the page, in place of the length",
+};
+
+const PAGE: Word = Word {
+    name: "out",
+    kind: Kind::Named("FILE"),
+    help: "Puts the page in FILE; nothing is printed then",
 };
 
 const AUTHOR: Word = Word {
@@ -540,6 +546,7 @@ const COMMANDS: [Entry; 13] = [
             CERTIFICATE,
             RECORDS,
             NODES_TOLD,
+            PAGE,
             TITLE,
             AUTHOR,
             JOURNEYS_ACCEPTED,
