@@ -117,8 +117,11 @@ done <<END
 2|$lacks <CERT>|answer
 2|error: unexpected argument '0' found|answer $array 0 none
 2|error: invalid value '0' for '--records <N>': 0 is not in 1..|answer none --records 0
-2|error: invalid value '$more' for '--nodes <N>': number too large|search $array 0 none --nodes $more
-2|error: invalid value '$more' for '--bytes <N>': number too large|search $array 0 none --bytes $more
+2|pg: bad number of nodes: it is as 1000000, 250k, 10M, 2G or 1e6|search $array 0 none --nodes $more
+2|pg: bad number of nodes: |cooks $array 0 list --nodes 1.5
+2|pg: bad number of nodes: |judge list --nodes=10m
+2|pg: bad number of nodes: |page none --nodes=x
+2|pg: bad number of bytes: it is as 1000000, 250k, 10M, 2G or 1e6|search $array 0 none --bytes $more
 2|error: unexpected argument '--replace' found|search $array 0 none --replace
 2|pg: bad rank|search 8/8 0 none
 2|pg: length above 64.0|search $array 64.5 none
@@ -132,6 +135,7 @@ done <<END
 4|pg: cannot open none|answer none --records=$most --journeys
 4|pg: cannot open none|why none -
 4|pg: cannot open none|page none --nodes=$most
+4|pg: cannot open none|page none --nodes=20k
 4|pg: cannot open none/none|search $array 0 none/none --nodes=0
 4|pg: cannot open none/|search $array 0 none/
 4|pg: cannot open none/|search $array 0 none/ --tolls
@@ -279,7 +283,7 @@ expect 4 'pg: read fault' '"$pg" judge - <&-' ''
 expect 4 'pg: write fault' '"$pg" judge ../list >/dev/full' ''
 for minutes in '' x 1. .5 1,5 -1 1e3; do expect 2 'pg: bad number of minutes' '"$pg" judge ../list --minutes='"'$minutes'" ''; done
 expect 2 'pg: bad number of minutes' '"$pg" search $array 0 new.pgc --minutes=x' ''
-expect 1 'pg: node limit reached' '"$pg" search $schweig 4.0 new.pgc --minutes 0' ''
+expect 1 'pg: time limit reached' '"$pg" search $schweig 4.0 new.pgc --minutes 0' ''
 expect 0 '' '"$pg" search $array 0 new.pgc --minutes 0.5 --nodes 1 >/dev/null; rm new.pgc' ''
 
 # Certificates in a folder: one is put there, checked in place of a search, told where it is refused, and replaced.
@@ -526,7 +530,7 @@ done
 expect 1 'pg: certificate limit reached' '"$pg" search $schweig 4.0 new.pgc --journeys --bytes 5000' ''
 expect 1 'pg: a game of 4 plies reaches the diagram' '"$pg" search $queen 3.0 good.pgc'
 # The games that a search met are kept: by one that gives up, by one that has a report, and nowhere else.
-expect 1 'pg: node limit reached' '"$pg" search $cooked 3.5 new.pgc --nodes 8312 --games ../met' ''
+expect 1 'pg: node limit reached' '"$pg" search $cooked 3.5 new.pgc --nodes 8.312k --games ../met' ''
 expect 1 '' '"$pg" games $cooked 3.5 ../met | tail -n 1; exit "${PIPESTATUS[0]}"' 'not sound'
 expect 0 '' '"$pg" search $queen 2.0 ../new.pgc --games ../kept | cmp - report && cmp ../kept games' ''
 expect 4 'pg: write fault' '"$pg" search $queen 2.0 new.pgc --games games >/dev/full' ''
@@ -645,7 +649,7 @@ for bytes in 0 4 100 135 140 171 172 $((size - 1)); do
   expect 1 'pg: certificate limit reached' '"$pg" search $schweig 4.0 new.pgc --tolls --bytes $bytes' ''
 done
 expect 1 'pg: node limit reached' '"$pg" search $schweig 4.0 good.pgc --tolls --nodes 0' ''
-expect 1 'pg: node limit reached' '"$pg" search $stalemate 9.5 new.pgc --tolls --minutes 0' ''
+expect 1 'pg: time limit reached' '"$pg" search $stalemate 9.5 new.pgc --tolls --minutes 0' ''
 expect 1 'pg: a game of 4 plies reaches the diagram' '"$pg" search $queen 3.0 good.pgc --tolls' ''
 expect 0 '' '"$pg" search $schweig 4.0 ../again.pgc --tolls --games ../kept >/dev/null && cmp ../kept ../knights' ''
 expect 4 'pg: write fault' '"$pg" search $queen 2.0 good.pgc --tolls >/dev/full'
@@ -808,6 +812,8 @@ if command -v script >/dev/null; then
   [ "$(cat "$work/said-of-journeys")" = "pg: this reaches further: pg solve $queen 2.0 --minutes 10" ] && [ ! -s "$work/said-of-tolls" ] ||
     { echo "not told which command reaches further" >&2; wrong=1; }
   says "'$pg' search $queen 3.0 new.pgc" 'pg: a game of 4 plies reaches the diagram' 'pg: try the length 2.0'
+  says "'$pg' search $schweig 4.0 new.pgc --minutes 0" 'pg: time limit reached' 'pg: 0 nodes, tree 0.0 of 4.0' \
+    "pg: this reaches further: pg solve $schweig 4.0 --minutes 10" 'pg: try `pg cooks` with a game, `pg show DIAGRAM LENGTH` for a forecast, or more --minutes'
   says "'$pg' search $cooked 3.5 new.pgc --nodes 8312" 'pg: node limit reached' 'pg: 8307 nodes, tree 3.5 of 3.5' 'pg: 2 games known: not sound' \
     "pg: this reaches further: pg solve $cooked 3.5 --minutes 10" 'pg: try `pg cooks` with a game, `pg show DIAGRAM LENGTH` for a forecast, or more --nodes'
 
@@ -817,10 +823,10 @@ if command -v script >/dev/null; then
   grep -q 'bytes [0-9]*% of file' "$work/said" || { echo "a long page does not show how far it is" >&2; wrong=1; }
   [ "$(tail -n 1 "$work/said")" = $'\e[Kpg: truncated certificate' ] && [ ! -s ../page.html ] || { echo "a refused page leaves something" >&2; wrong=1; }
 
-  # A long search on 10 columns: what it shows does not wrap, has the tree, the share and the nodes to expect, and is taken away.
+  # A long search on 10 columns: what it shows does not wrap, has the time, the share, the tree, the nodes to expect and the games, and is taken away.
   script -qec "stty cols 10; '$pg' search $stalemate 9.5 new.pgc --nodes 30000000" /dev/null </dev/null >"$work/said"
   wraps=$'\e\\[?7h' cuts=$'\e\\[?7l' up=$'\e\\[A' clears=$'\r\e\\[K'
-  grep -q "${clears}${cuts}[0-9.]* [0-9]*k [0-9]*% of limit\(, tree ~[0-9]*[kMG]\)\?${wraps}" "$work/said" || { echo "a long search does not show how far it is" >&2; wrong=1; }
+  grep -q "${clears}${cuts}[0-9:]* [0-9]*% of nodes, tree [0-9.]* of 9.5, [0-9]*k nodes\( of ~[0-9]*[kMG]\)\?, [0-9]* games\?${wraps}" "$work/said" || { echo "a long search does not show how far it is" >&2; wrong=1; }
   tr -d '\n' <"$work/said" | grep -q "$wraps"$'\r'"$up${clears}pg: node limit reached" || { echo "the line of a search is not taken away" >&2; wrong=1; }
   on_terminal "TERM=dumb '$pg' search $stalemate 9.5 new.pgc --nodes 30000000" >"$work/said"
   grep -q $'\e' "$work/said" && { echo "a dumb terminal gets escape sequences" >&2; wrong=1; }

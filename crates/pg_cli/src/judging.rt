@@ -20,6 +20,7 @@ use crate::problems::{AtPlace, count_problems, say_bad, say_given};
 use crate::refusals::{Named, Refusal};
 use crate::screen::Screen;
 use crate::spelling::{say_replace, text_of};
+use crate::watching::Watch;
 use clap::ArgMatches;
 use pg_captures::{Bound, Captures, Promotions};
 use pg_certificate::{Refused, Sink, ToWrite};
@@ -28,21 +29,19 @@ use pg_files::{
     Draft, FileFault, begin, begin_here, is_missing, list, make_folder, open_plain, size_of,
 };
 use pg_judge::{
-    Effort, Enough, Entry, EntryFault, Finding, Given, JudgeProgress, Limits, Old, Prepared,
-    Ruling, Scratch, Unsettled, given_to, is_sound, judge as judge_problem, judge_by_tolls,
-    prepare_tolls, read_entry, recheck, time_is_over, unsettled_of, write_row,
+    Enough, Entry, EntryFault, Finding, Given, JudgeProgress, Limits, Old, Prepared, Ruling,
+    Scratch, Unsettled, given_to, is_sound, judge as judge_problem, judge_by_tolls, prepare_tolls,
+    read_entry, recheck, time_is_over, unsettled_of, write_row,
 };
 use pg_pawns::PawnFiles;
 use pg_san::{GamesFault, next_line};
-use pg_searcher::SearchProgress;
-use pg_streams::{Cleared, Deadline, Gathered, JudgeLine, Passing, Terminal, Until};
+use pg_streams::{Cleared, Deadline, Gathered, Passing, Terminal, Until};
 use pg_tariff_files::{CarriedFault, number_of, read_carried, stating_all, write_carried};
 use std::alloc::{AllocError, AllocFailed, Global};
 use std::collections::BTreeSet;
 use std::io;
 use std::io::{Cursor, Eprint, Read};
 use std::rt::Runtime;
-use std::time::Clock;
 
 // The most nodes of one search for the games of a problem, where the words do not say it.
 pub(crate) const NODES: u64 = 100_000_000;
@@ -80,72 +79,6 @@ impl Orders<'_> {
             max_nodes: self.reach.nodes,
             enough: self.enough,
         }
-    }
-}
-
-// Shows how far a problem is judged, and ends that when its time is over. A search by drawn orders has a tenth of it.
-#[derive(Drop)]
-pub(crate) struct Watch<'a, R> {
-    rt: &'a R,
-    pub(crate) line: JudgeLine<'a, R>,
-    milliseconds: Option<u64>,
-    deadline: Deadline<'a, R>,
-    drawn: Option<Deadline<'a, R>>,
-    terminal: &'a Terminal,
-}
-
-impl<'a, R: Clock + Eprint> Watch<'a, R> {
-    // Of a problem with its number, from 1, which is judged from now on, within these milliseconds if any are told.
-    pub(crate) fn new(
-        rt: &'a R,
-        terminal: &'a Terminal,
-        turn: Turn,
-        milliseconds: Option<u64>,
-    ) -> Watch<'a, R> {
-        Watch {
-            rt,
-            line: JudgeLine::new(rt, terminal, turn.number, turn.count),
-            milliseconds,
-            deadline: Deadline::new(rt, milliseconds),
-            drawn: None,
-            terminal,
-        }
-    }
-}
-
-impl<R: Clock + Eprint> JudgeProgress for Watch<'_, R> {
-    fn begins(&mut self, effort: Effort, limit: u64) {
-        let called = match effort {
-            Effort::Cooks => "cooks",
-            Effort::Search => "search",
-            Effort::Journeys => "journeys",
-            Effort::Drawn => "drawn",
-            Effort::Tariffs => "tariffs",
-            Effort::Tolls => "tolls",
-        };
-        self.line.begin(called, limit);
-        if let (Effort::Drawn, Some(all)) = (effort, self.milliseconds) {
-            self.drawn = Some(Deadline::new(self.rt, Some(all / 10)));
-        }
-    }
-
-    fn has_drawn(&mut self) {
-        self.drawn = None;
-    }
-}
-
-impl<R: Clock + Eprint> SearchProgress for Watch<'_, R> {
-    fn reached(&mut self, plies: u8, left: u64) {
-        self.line.reach(plies, left);
-    }
-
-    fn goes_on(&mut self) -> bool {
-        if let Some(drawn) = &mut self.drawn {
-            if drawn.is_over() {
-                return false;
-            }
-        }
-        !self.deadline.is_over()
     }
 }
 
@@ -597,7 +530,8 @@ fn judge_and_tell<R: Runtime + AllocGlobal, W: Sink>(
     ensures err { IfErr result (IsSpoiled (⟦<Gathered<W> as Sink>⟧.has_failed out.new)) }
     ensures unwritten { IfErr result (λ spoiled. spoiled ≢ Spoiled.Run Refusal.Write → out.new ≡ out.old) }
 {
-    let mut watch = Watch::new(rt, terminal, turn, orders.reach.milliseconds);
+    let plies = entry.problem.length.plies();
+    let mut watch = Watch::new(rt, terminal, turn, plies, orders.reach.milliseconds);
     let answer = judge_entry(rt, entry, orders, &mut watch);
     watch.line.end();
     let judged = match answer {

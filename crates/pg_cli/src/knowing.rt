@@ -236,7 +236,8 @@ pub(crate) fn cooks<R: Runtime + AllocGlobal>(
             .and_then(|d| u8::try_from(d).ok()),
     };
     let terminal = Terminal::new(screen.lines);
-    let line = LedLine::new(rt, &terminal, limits.max_nodes);
+    let plies = listed.problem.length.plies();
+    let line = LedLine::new(rt, &terminal, plies, reach.allowed());
     let mut timed = Timed::new(line, Deadline::new(rt, reach.milliseconds));
     let mut out = Gathered::new(Cleared::new(ToWrite::new(io::writer(rt)), rt, &terminal));
     let answer = cooks_from(

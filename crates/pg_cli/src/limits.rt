@@ -2,7 +2,7 @@
 
 use clap::ArgMatches;
 use clap::parser::ValueSource;
-use pg_streams::{amount_of, milliseconds_of};
+use pg_streams::{Allowed, amount_of, milliseconds_of};
 
 // How far a search goes: the most nodes, the most milliseconds, if they are limited, and the most bytes of a certificate
 // that is written to a file.
@@ -11,6 +11,16 @@ pub(crate) struct Reach {
     pub(crate) nodes: u64,
     pub(crate) milliseconds: Option<u64>,
     pub(crate) bytes: u64,
+}
+
+impl Reach {
+    // What a search is allowed.
+    pub(crate) fn allowed(&self) -> Allowed {
+        Allowed {
+            nodes: self.nodes,
+            milliseconds: self.milliseconds,
+        }
+    }
 }
 
 // The most bytes of a certificate, where the words do not say it.

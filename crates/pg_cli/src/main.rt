@@ -36,6 +36,7 @@ mod solving;
 mod spelling;
 mod telling;
 mod upgrading;
+mod watching;
 
 use crate::asked::{Asked, asked_by};
 use crate::bounds::{journeys_to, tolls_to, travel_to};

@@ -130,7 +130,8 @@ pub(crate) fn search_to<R: Runtime + AllocGlobal, W: Write + Drop>(
     let mut sink = ToWrite::new(Limited::new(certificate, means.reach.bytes));
     write_lead(means.tariffs, &mut sink);
     let nodes = means.reach.nodes;
-    let line = SearchLine::new(rt, terminal, nodes);
+    let allowed = means.reach.allowed();
+    let line = SearchLine::new(rt, terminal, problem.length.plies(), allowed);
     let mut timed = Timed::new(line, Deadline::new(rt, means.reach.milliseconds));
     let mut games = Games::new(rt.alloc());
     let mut met = Met::new(&mut timed, &mut games, nodes);
@@ -181,7 +182,7 @@ fn find_to<R: Runtime + AllocGlobal>(
     ensures err { IfErr result (λ refusal. IsSearchRefusal problem.now.diagram problem.now.length refusal) }
 {
     let nodes = reach.nodes;
-    let line = SearchLine::new(rt, terminal, nodes);
+    let line = SearchLine::new(rt, terminal, problem.length.plies(), reach.allowed());
     let mut timed = Timed::new(line, Deadline::new(rt, reach.milliseconds));
     let mut games = Games::new(rt.alloc());
     let mut met = Met::new(&mut timed, &mut games, nodes);

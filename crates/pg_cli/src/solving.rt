@@ -9,12 +9,13 @@ ghost use Rattle.pg_cli.specs.Solving.{IsSolvedBeside, IsSolvedBoard, IsSolvedWi
 ghost use Rattle.pg_cli.specs.Words.{IsSolved};
 
 use crate::checking::finished;
-use crate::judging::{NODES, Orders, Place, Spoiled, Turn, Watch, judge_entry, status_of};
+use crate::judging::{NODES, Orders, Place, Spoiled, Turn, judge_entry, status_of};
 use crate::limits::reach_of;
 use crate::positions::{Board, board_in};
 use crate::refusals::{Named, Refusal};
 use crate::screen::Screen;
 use crate::spelling::say_all;
+use crate::watching::Watch;
 use clap::ArgMatches;
 use pg_checker::check_listed;
 use pg_files::list;
@@ -88,7 +89,8 @@ fn judged<R: Runtime + AllocGlobal>(
         number: 1,
         count: 1,
     };
-    let mut watch = Watch::new(rt, terminal, turn, orders.reach.milliseconds);
+    let plies = entry.problem.length.plies();
+    let mut watch = Watch::new(rt, terminal, turn, plies, orders.reach.milliseconds);
     let answer = judge_entry(rt, entry, orders, &mut watch);
     watch.line.end();
     match answer {

@@ -4,7 +4,7 @@ ghost use Rattle.pg_streams.specs.Amounts.{IsPlain};
 use crate::deadline::are_digits;
 
 /// The number that a text says: decimal digits, as in `1000000`; or digits, maybe a dot and digits behind it, and then
-/// `k`, `M` or `G` for thousands, millions and milliards, or `e` and a power of ten, as in `250k`, `1.5M`, `2G` and
+/// `k`, `M` or `G` for thousands, millions and billions, or `e` and a power of ten, as in `250k`, `1.5M`, `2G` and
 /// `1e6`. None for any other text, for what is no whole number, and for more than 2^64 - 1.
 pub fn amount_of(text: &str) -> Option<u64>
     ensures { IsPlain text.now result }

@@ -2,6 +2,7 @@
 //! terminal that says how far a run is, and the end of its time.
 #![tactic(auto)]
 
+mod allowed;
 mod amounts;
 mod deadline;
 mod gathered;
@@ -15,6 +16,7 @@ mod runs;
 mod trees;
 mod until;
 
+pub use allowed::Allowed;
 pub use amounts::amount_of;
 pub use deadline::{Deadline, Timed, milliseconds_of};
 pub use gathered::Gathered;

@@ -19,7 +19,7 @@ const UP: &str = "\x1b[A";
 const CLEAR: &str = "\r\x1b[K";
 
 // The most characters of a line.
-pub(crate) const WIDTH: usize = 48;
+pub(crate) const WIDTH: usize = 79;
 
 /// The line of a terminal on which runs say how far they are, as all see it that write there. The cursor stands below
 /// it.
@@ -65,6 +65,8 @@ pub(crate) struct Line<'a, R> {
     began: Option<Instant>,
     /// The milliseconds after which the next text is due.
     due: u128,
+    /// The milliseconds that had passed when the clock was last asked.
+    pub(crate) passed: u64,
 }
 
 impl<'a, R: Clock + Eprint> Line<'a, R> {
@@ -79,6 +81,7 @@ impl<'a, R: Clock + Eprint> Line<'a, R> {
                 None
             },
             due: FIRST,
+            passed: 0,
         }
     }
 
@@ -100,6 +103,7 @@ impl<'a, R: Clock + Eprint> Line<'a, R> {
             return false;
         }
         self.due = passed.saturating_add(BETWEEN);
+        self.passed = u64::try_from(passed).unwrap_or(u64::MAX);
         true
     }
 

@@ -1,11 +1,12 @@
 //! How far a long count or search is, on the terminal.
 
+use crate::allowed::{Allowed, write_front, write_games, write_trees};
 use crate::line::{Line, Terminal, WIDTH};
-use crate::progress::{scaled, share};
+use crate::progress::scaled;
 use crate::trees::Trees;
 use arrayvec::ArrayString;
-use pg_fen::Length;
 use pg_moves::CountProgress;
+use pg_position::Move;
 use pg_searcher::SearchProgress;
 use std::fmt::Write;
 use std::io::Eprint;
@@ -53,24 +54,34 @@ impl<R: Clock + Eprint> CountProgress for CountLine<'_, R> {
     }
 }
 
-/// Shows how many nodes a search has visited, how many of its limit those are, the length of the tree at work,
-/// and how many nodes that one may come to.
+/// Shows how long a search is at work, its share of its limit, the length of the tree at work and the stated one, how
+/// many nodes were visited and how many that tree may come to, and how many games were met.
 #[derive(Drop)]
 pub struct SearchLine<'a, R> {
     line: Line<'a, R>,
-    limit: u64,
+    /// The plies that are stated.
+    plies: u8,
+    allowed: Allowed,
     turns: u32,
     trees: Trees,
+    games: u64,
 }
 
 impl<'a, R: Clock + Eprint> SearchLine<'a, R> {
-    /// Of a search of `limit` nodes at most.
-    pub fn new(rt: &'a R, terminal: &'a Terminal, limit: u64) -> SearchLine<'a, R> {
+    /// Of a search for games of so many plies, which is allowed so much and begins now.
+    pub fn new(
+        rt: &'a R,
+        terminal: &'a Terminal,
+        plies: u8,
+        allowed: Allowed,
+    ) -> SearchLine<'a, R> {
         SearchLine {
             line: Line::new(rt, terminal),
-            limit,
+            plies,
+            allowed,
             turns: 0,
             trees: Trees::new(),
+            games: 0,
         }
     }
 
@@ -80,23 +91,28 @@ impl<'a, R: Clock + Eprint> SearchLine<'a, R> {
     }
 }
 
-/// The line of a search: the length of the tree, the nodes, and their share of the limit; and how many nodes the tree
-/// may come to, where that is told.
-pub fn search_line(plies: u8, nodes: u64, limit: u64, expected: Option<u64>) -> ArrayString<WIDTH> {
+/// The line of a search, after so many milliseconds: the time, the share of the limit that is nearer, the plies of the
+/// tree at work and the stated ones as lengths, the nodes of all trees, how many the tree at work may come to, where that
+/// is told, and the games that were met.
+pub fn search_line(
+    passed: u64,
+    allowed: Allowed,
+    trees: [u8; 2],
+    nodes: u64,
+    expected: Option<u64>,
+    games: u64,
+) -> ArrayString<WIDTH> {
     let mut line = ArrayString::new();
-    if let Some(length) = Length::from_plies(plies) {
-        let (number, unit) = scaled(nodes);
-        let share = share(nodes, limit);
-        let _ = write!(
-            line,
-            "{} {number}{unit} {share}% of limit",
-            length.write().as_str()
-        );
-    }
+    write_front(&mut line, passed, nodes, allowed);
+    let _ = line.write_str("tree ");
+    write_trees(&mut line, trees);
+    let (number, unit) = scaled(nodes);
+    let _ = write!(line, ", {number}{unit} nodes");
     if let Some(expected) = expected {
         let (number, unit) = scaled(expected);
-        let _ = write!(line, ", tree ~{number}{unit}");
+        let _ = write!(line, " of ~{number}{unit}");
     }
+    write_games(&mut line, games);
     line
 }
 
@@ -105,13 +121,23 @@ impl<R: Clock + Eprint> SearchProgress for SearchLine<'_, R> {
         if !self.line.is_on() {
             return;
         }
-        let nodes = self.limit.saturating_sub(left);
+        let nodes = self.allowed.nodes.saturating_sub(left);
         self.trees.reach(plies, nodes);
         self.turns = self.turns.wrapping_add(1);
         if self.turns % TURNS == 0 && self.line.is_due() {
-            let expected = self.trees.expected();
-            self.line
-                .show(search_line(plies, nodes, self.limit, expected).as_str());
+            let line = search_line(
+                self.line.passed,
+                self.allowed,
+                [plies, self.plies],
+                nodes,
+                self.trees.expected(),
+                self.games,
+            );
+            self.line.show(line.as_str());
         }
+    }
+
+    fn met(&mut self, _game: &[Move]) {
+        self.games = self.games.saturating_add(1);
     }
 }

@@ -4,7 +4,7 @@ use crate::shared::{number, word};
 use pg_certificate::{FromRead, Source};
 use pg_moves::Unwatched;
 use pg_searcher::SearchProgress;
-use pg_streams::{Deadline, Timed, Until, judge_line, milliseconds_of};
+use pg_streams::{Allowed, Deadline, Timed, Until, amount_of, judge_line, milliseconds_of};
 use pg_trial::FailsAt;
 use std::cell::Cell;
 use std::io;
@@ -76,6 +76,65 @@ fn minutes(rt: HostRuntime) {
     }
 }
 
+// Numbers of nodes and bytes, and what they say.
+const AMOUNTS: &str = "0 0
+007 7
++5 5
+18446744073709551615 18446744073709551615
+250k 250000
+10M 10000000
+2G 2000000000
+1.5M 1500000
+0.25k 250
+1.50e1 15
+1e6 1000000
+1e0 1
+0e19 0
+18446744073G 18446744073000000000
+18446744073.709551615G 18446744073709551615
+1.8446744073709551615e19 18446744073709551615";
+
+// What is no whole number, too large, or another text.
+const NO_AMOUNTS: &str = "
+x
+-1
+1.5
+0.0001k
+1.55e1
+k
+.5k
+5.k
+5K
+5m
+1E6
+1e
+e6
+1e-3
+1e+3
+1e20
+0e20
+5 k
+10MM
+1,5M
+18446744073709551616
+18446744073709551.616k";
+
+// The number that the text of a row says is the row's other one.
+fn check_amount(rt: &impl Abort, row: &str) {
+    let found = amount_of(word(row, 0)).expect(rt, row);
+    assert_eq!(rt; found, number(rt, word(row, 1)), "{row}");
+}
+
+#[test]
+fn amounts(rt: HostRuntime) {
+    for row in AMOUNTS.lines() {
+        check_amount(&rt, row);
+    }
+    for text in NO_AMOUNTS.lines() {
+        assert!(rt; amount_of(text).is_none(), "{text}");
+    }
+}
+
 // The clock is asked at the first turn and at each 1,024th from then on; what is over stays so.
 #[test]
 fn searches_that_end_in_time(rt: HostRuntime) {
@@ -83,7 +142,7 @@ fn searches_that_end_in_time(rt: HostRuntime) {
         millis: Cell::new(1000),
     };
     let mut watch = Timed::new(Unwatched, Deadline::new(&clock, Some(500)));
-    let first = SearchProgress::goes_on(&mut watch);
+    let first = SearchProgress::goes_on(&mut watch) && !watch.is_late();
     clock.millis.set(1500);
     let mut more = 0u32;
     for _ in 0..5000 {
@@ -93,6 +152,7 @@ fn searches_that_end_in_time(rt: HostRuntime) {
     }
     clock.millis.set(1000);
     let last = SearchProgress::goes_on(&mut watch);
+    assert!(rt; watch.is_late());
     let mut endless = Deadline::new(&clock, None);
     assert!(rt; first && !last && !endless.is_over());
     assert_eq!(rt; more, 1023);
@@ -140,6 +200,28 @@ fn sources_that_fail_in_time(rt: HostRuntime) {
 
 #[test]
 fn lines_of_judges(rt: HostRuntime) {
-    let line = judge_line([3, 30], "search", 14, [840_123, 10_000_000]);
-    assert_eq!(rt; line.as_str(), "3 of 30: search 7.0 840k of 10000k");
+    let mut allowed = Allowed {
+        nodes: 10_000_000,
+        milliseconds: None,
+    };
+    let line = judge_line([3, 30], "search", 84_000, allowed, [14, 19], [840_123, 1]);
+    assert_eq!(rt;
+        line.as_str(),
+        "3 of 30: 1:24 8% of nodes, search 7.0 of 9.5, 840k nodes, 1 game"
+    );
+    allowed.milliseconds = Some(600_000);
+    let line = judge_line([1, 1], "journeys", 84_000, allowed, [14, 19], [840_123, 0]);
+    assert_eq!(rt;
+        line.as_str(),
+        "1:24 14% of time, journeys 7.0 of 9.5, 840k nodes, 0 games"
+    );
+    let line = judge_line(
+        [100, 100],
+        "journeys",
+        u64::MAX,
+        allowed,
+        [128, 128],
+        [u64::MAX, 4096],
+    );
+    assert!(rt; line.len() <= 79);
 }

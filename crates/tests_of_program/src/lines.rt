@@ -5,7 +5,8 @@ use pg_certificate::{Sink, Source, ToWrite};
 use pg_moves::CountProgress;
 use pg_searcher::SearchProgress;
 use pg_streams::{
-    Cleared, CountLine, Passing, SearchLine, Terminal, count_line, led_line, line_of, search_line,
+    Allowed, Cleared, CountLine, Passing, SearchLine, Terminal, count_line, led_line, line_of,
+    search_line,
 };
 use pg_trial::{FailsAt, OneByte};
 use std::cell::Cell;
@@ -128,22 +129,27 @@ const COUNTS: &str = "0: 0 games
 84998978956: 84998M games
 18446744073709551615: 18446P games";
 
-// Plies, nodes and their limit, what the tree may come to, where that is told, and what is shown.
-const SEARCHES: &str = "0 0 1000000 -: 0.0 0 0% of limit
-11 428 1000000 -: 5.5 428 0% of limit
-24 32105000 80000000 40123456: 12.0 32105k 40% of limit, tree ~40123k
-128 99999999 99999999 18446744073709551615: 64.0 99999k 100% of limit, tree ~18446P";
+// Milliseconds, the limits of nodes and of milliseconds, if there is one, the plies at work and the stated ones, the
+// nodes, what the tree may come to, where that is told, and the games; and what is shown.
+const SEARCHES: &str = "0 1000000 - 0 0 0 - 0: 0:00 0% of nodes, tree 0.0 of 0.0, 0 nodes, 0 games
+83999 1000000 - 11 18 80428 - 1: 1:23 8% of nodes, tree 5.5 of 9.0, 80428 nodes, 1 game
+3599999 80000000 - 24 24 32105000 40123456 2: 59:59 40% of nodes, tree 12.0 of 12.0, 32105k nodes of ~40123k, 2 games
+84000 18446744073709551615 300000 29 34 840000 - 0: 1:24 28% of time, tree 14.5 of 17.0, 840k nodes, 0 games
+84000 1000000 300000 29 34 840000 - 0: 1:24 84% of nodes, tree 14.5 of 17.0, 840k nodes, 0 games
+3600000 1000000 3600000 29 34 1000000 - 0: 1h00 100% of time, tree 14.5 of 17.0, 1000k nodes, 0 games
+18446744073709551615 99999999 - 128 128 99999999 18446744073709551615 4096: 9999h25 100% of nodes, tree 64.0 of 64.0, \
+99999k nodes of ~18446P, 4096 games";
 
-// Moves of other kinds, plies and nodes, and what is shown.
-const LED: &str = "0 0 0: +0 0.0 0
-3 37 1234567: +3 18.5 1234k
-255 128 18446744073709551615: +255 64.0 18446P";
+// The same of a led search, with its foreign moves in place of what the tree may come to.
+const LED: &str = "0 10 - 0 0 0 0: 0:00 0% of nodes, tree 0.0 of 0.0, +0 foreign, 0 nodes
+45000 10000000 90000 36 37 1234567 3: 0:45 50% of time, tree 18.0 of 18.5, +3 foreign, 1234k nodes
+18446744073709551615 99999999 - 128 128 99999999 255: 9999h25 100% of nodes, tree 64.0 of 64.0, +255 foreign, 99999k nodes";
 
-// What is shown is what stands behind `: `, and never wider than 48 columns.
+// What is shown is what stands behind `: `, and never wider than 79 columns.
 fn check_shown(rt: &impl Abort, shown: &str, row: &str) {
     let (_, wanted) = row.split_once(": ").expect(rt, row);
     assert_eq!(rt; shown, wanted);
-    assert!(rt; shown.len() <= 48, "{row}");
+    assert!(rt; shown.len() <= 79, "{row}");
 }
 
 #[test]
@@ -161,12 +167,21 @@ fn lines_of_counts(rt: HostRuntime) {
     }
 }
 
+// What a row allows a search.
+fn allowed_in(rt: &impl Abort, row: &str) -> Allowed {
+    Allowed {
+        nodes: at(rt, row, 1),
+        milliseconds: word(row, 2).parse().ok(),
+    }
+}
+
 #[test]
 fn lines_of_searches(rt: HostRuntime) {
     for row in SEARCHES.lines() {
-        let (plies, nodes, limit) = (few_at(&rt, row, 0), at(&rt, row, 1), at(&rt, row, 2));
-        let expected = word(row, 3).trim_end_matches(':').parse().ok();
-        let shown = search_line(plies, nodes, limit, expected);
+        let trees = [few_at(&rt, row, 3), few_at(&rt, row, 4)];
+        let expected = word(row, 6).parse().ok();
+        let (passed, nodes, games) = (at(&rt, row, 0), at(&rt, row, 5), at(&rt, row, 7));
+        let shown = search_line(passed, allowed_in(&rt, row), trees, nodes, expected, games);
         check_shown(&rt, shown.as_str(), row);
     }
 }
@@ -174,7 +189,15 @@ fn lines_of_searches(rt: HostRuntime) {
 #[test]
 fn lines_of_led_searches(rt: HostRuntime) {
     for row in LED.lines() {
-        let shown = led_line(few_at(&rt, row, 0), few_at(&rt, row, 1), at(&rt, row, 2));
+        let trees = [few_at(&rt, row, 3), few_at(&rt, row, 4)];
+        let (passed, nodes) = (at(&rt, row, 0), at(&rt, row, 5));
+        let shown = led_line(
+            passed,
+            allowed_in(&rt, row),
+            trees,
+            few_at(&rt, row, 6),
+            nodes,
+        );
         check_shown(&rt, shown.as_str(), row);
     }
 }
@@ -211,7 +234,11 @@ fn counts_that_are_shown(rt: HostRuntime) {
 fn check_search(rt: &impl Abort, screen: bool) {
     let desk = desk_at(7);
     let terminal = Terminal::new(screen);
-    let mut line = SearchLine::new(&desk, &terminal, 5000);
+    let allowed = Allowed {
+        nodes: 5000,
+        milliseconds: None,
+    };
+    let mut line = SearchLine::new(&desk, &terminal, 8, allowed);
     desk.millis.set(1007);
     for left in 0..1023u64 {
         line.reached(8, left);
