@@ -262,7 +262,7 @@ const NODES_LED: Word = Word {
 // The nodes of `pg page`.
 const NODES_TOLD: Word = Word {
     name: "nodes",
-    kind: Kind::Limit("K", "20000", 0),
+    kind: Kind::Limit("K", "3000", 0),
     help: "The most expanded nodes that are shown",
 };
 
