@@ -163,6 +163,7 @@ GAMES games $queen 2.0 ''
 GAMES cooks $queen 2.0 ''
 --games search $queen 2.0 ../none --games ''
 --games search $queen 2.0 ../none --games=
+--out page good.pgc --out ''
 OLD upgrade '' ../none
 NEW upgrade old.pgc ''
 NEW upgrade none ''
@@ -432,6 +433,14 @@ expect 0 '' 'cat good.pgc | "$pg" answer /dev/stdin | cmp - report'
 expect 4 'pg: cannot open .' '"$pg" why . -'
 expect 0 '' 'cat good.pgc | "$pg" why /dev/stdin - | tail -n 1' 'the certificate is right'
 expect 4 'pg: cannot open .' '"$pg" page .'
+expect 4 'pg: cannot open .' '"$pg" page good.pgc --out .' ''
+expect 4 'pg: cannot open -' '"$pg" page good.pgc --out -' ''
+expect 4 'pg: cannot open good.pgc' '"$pg" page good.pgc --out good.pgc' ''
+expect 0 '' '"$pg" page good.pgc --out ../out.html --title "<i>" --author "&"' ''
+expect 0 '' '"$pg" page good.pgc --title "<i>" --author "&" | cmp - ../out.html' ''
+expect 0 '' 'grep -c "<h1>&lt;i&gt; by &amp;</h1>" ../out.html' 1
+expect 1 'pg: truncated certificate' '"$pg" page ../cut.pgc --out ../out.html' ''
+expect 0 '' 'grep -c "<h1>&lt;i&gt; by &amp;</h1>" ../out.html' 1
 expect 0 '' 'cat good.pgc | "$pg" page /dev/stdin | cmp - <("$pg" page good.pgc)'
 for full in '>&-' '>/dev/full'; do
   expect 4 'pg: write fault' '"$pg" moves "$position" '"$full"
@@ -803,6 +812,7 @@ if command -v script >/dev/null; then
   gzip -c good.pgc >../packed
   says "'$pg' check $queen 2.0 ../packed games" 'pg: not a certificate' 'pg: it looks packed by gzip; unpack it, or let `pg check` read it from a pipe'
   says "'$pg' answer ../packed" 'pg: not a certificate' 'pg: it looks packed by gzip; unpack it, or let `pg check` read it from a pipe'
+  says "'$pg' page good.pgc" 'pg: standard output is a terminal: say --out FILE'
   says "'$pg' answer nothing" 'pg: cannot open nothing' 'pg: No such file or directory (os error 2)'
   says "'$pg' check $schweig 4.0 ../journeys.pgc ../knights" 'pg: unknown bound 5' 'pg: bound 5 is that by journeys: say --journeys'
   says "'$pg' check $schweig 4.0 ../tolls.pgc ../knights" 'pg: not a certificate' 'pg: tariffs stand before it: say --tolls'

@@ -1,6 +1,6 @@
 #!/usr/bin/env bash
 # Opens the pages that `pg page` writes of some examples in a browser, Chromium without a window, and uses them as a reader does:
-# plays games by button and by arrow key, walks to cuts, to a reference and to where a page stops, goes back, and comes by an
+# plays games by button and by arrow key, goes to moves of the games, turns the board, walks to cuts, to a reference and to where a page stops, goes back, and comes by an
 # address. At each place the words are to be those of `pg why`, and the board that on which `pg games` sees the moves so
 # far end; where all moves are looked at, they are to be those of `pg moves`, in that order, and what is said of each that of
 # `pg why`. Quiet where all is so; else prints each difference, and ends with status 1. Without a browser it prints one
@@ -9,7 +9,7 @@
 #   bench/program/page.sh                     tries the pages
 #   bench/program/page.sh --pictures FOLDER   makes pictures of them in FOLDER, wide and at a telephone's width
 . "$(dirname "$(readlink -f "$0")")/begin.sh"
-places=0 rows=0
+places=0 rows=0 captions=()
 
 fail() {
   echo "$name: $1" >&2
@@ -48,6 +48,24 @@ cat >"$work/reader" <<'END_OF_READER'
     if (found) found.click(); else tell('MISSING', selector, text);
   }
 
+  // Clicks the last move of the game with that number, or its move with the number behind.
+  function clickGame(words) {
+    var item = all('#games li')[words[1] - 1], buttons = item ? all('button', item) : [];
+    var button = buttons[words[2] ? words[2] - 1 : buttons.length - 1];
+    if (button) button.click(); else tell('MISSING', 'game', words.slice(1).join(' '));
+  }
+
+  // The squares that are marked, as the letters and digits beside the board name them.
+  function marked() {
+    var labels = all('#board .labels text'), isTurned = labels.length === 16, files = isTurned ? 'hgfedcba' : 'abcdefgh';
+    if (isTurned && (labels[0].textContent !== '1' || labels[1].textContent !== 'h' || all('#board use')[0].getAttribute('href') !== '#field'))
+      return 'no letters';
+    return all('#board .last').map(function (square) {
+      var y = +square.getAttribute('y');
+      return files.charAt(+square.getAttribute('x')) + (isTurned ? y + 1 : 8 - y);
+    }).join('-');
+  }
+
   function tellRows(rights) {
     tell('ROWS', address(), part('viewer').dataset.placement, rights);
     all('#moves .rows').forEach(function (list) {
@@ -63,7 +81,11 @@ cat >"$work/reader" <<'END_OF_READER'
   function take(step) {
     var words = step.split(' '), rest = words.slice(1).join(' ');
     switch (words[0]) {
-      case 'game': click('#games button', rest); break;
+      case 'game': clickGame(words); break;
+      case 'unfold': all('details').forEach(function (list) { list.open = true; }); break;
+      case 'marked': if (marked() !== rest) tell('MISSING', 'marks on ' + rest, marked()); break;
+      case 'here': if (all('#games .here').map(function (button) { return button.textContent; }).join() !== rest) tell('MISSING', 'move', rest); break;
+      case 'titles': tell('TITLES', document.title, document.querySelector('h1').textContent); break;
       case 'move': click('#moves .move', rest); break;
       case 'line': click('#line button', rest); break;
       case 'press': press(rest); break;
@@ -154,6 +176,7 @@ compare() {
       ROW) echo "$first|$second|$third" >>"$work/rows" ;;
       END) compare_rows "$moves" "$board" "$rights" ;;
       ASKS) asked=$((asked + 1)) && ask "$first" ;;
+      TITLES) [ "$first" = "$caption" ] && [ "$second" = "$caption" ] || fail "the page is called '$first', and its heading is '$second'" ;;
       READS) [ "${first%%.*}" = "$1" ] && [ "$second" = "$(plies_of_length)" ] || fail "the page reads '$first', with $second shorter lengths" ;;
       *) fail "the reader does not find $first $second" ;;
     esac
@@ -176,7 +199,7 @@ take() {
   mapfile -t lines <"$top/examples/$1/problem"
   name=$1 diagram=${lines[0]} length=${lines[1]} certificate=$top/examples/$1/certificate.pgc words=()
   [ ! -f "$top/examples/$1/words" ] || read -ra words <"$top/examples/$1/words"
-  "$pg" page "$certificate" --nodes "$2" "${words[@]}" >"$work/page.html" || fail "pg page ends with status $?"
+  "$pg" page "$certificate" --nodes "$2" "${words[@]}" "${captions[@]}" >"$work/page.html" || fail "pg page ends with status $?"
   ! grep -Eiq "https?:|@import|src *=|url\((['\"]?)[^#'\"]|href *= *['\"]?[^#'\" ]" "$work/page.html" || fail "the page loads something"
 }
 
@@ -197,6 +220,13 @@ name='many records' diagram=2bqr1k1/2p1ppbp/1pp4p/7n/r2P3P/8/P1P1PPP1/RNB1KBNR
 grep -q 'What was checked: a certificate of 1131833 records with [0-9][0-9]* named nodes' "$work/page.html" ||
   fail "the page has another number of records: $(grep -o 'What was checked: .*records' "$work/page.html")"
 
+# A page of two thousand games has at most two million bytes, and their list is folded.
+name='many games'
+"$pg" search rn1q1bnr/ppp1kB1p/3p2p1/3NN3/4P3/8/PPPP1PPP/R1BbK2R 6.5 "$work/many.pgc" --nodes 5000000 --journeys >/dev/null
+"$pg" page "$work/many.pgc" --out "$work/page.html" || fail "pg page ends with status $?"
+[ "$(wc -c <"$work/page.html")" -le 2000000 ] || fail "the page has $(wc -c <"$work/page.html") bytes"
+grep -q '<details><summary>2043 games</summary>' "$work/page.html" || fail "the list is not folded"
+
 # A page names the command that checks its certificate, with the word that this wants: with a browser and without one, it has the
 # verdict of the report.
 for name in schweig bishop-on-d3; do
@@ -215,6 +245,16 @@ case ${1-} in
   *) echo "bench/program/page.sh: '$1' is not understood" >&2; exit 2 ;;
 esac
 
+# Texts that would end the title, the heading or the script, if they could.
+odd='</title></h1></script><script>document.title=1</script>&lt;"'
+captions=(--title "$odd" --author "$odd")
+caption="$odd by $odd"
+take schweig 20000
+asked=0
+read_page '' 'titles;reads'
+compare Sound "$(why '')"
+captions=()
+
 while IFS='|' read -r name nodes verdict address steps end asks; do
   asked=0
   take "$name" "$nodes"
@@ -225,6 +265,7 @@ done <<'END_OF_READERS'
 schweig|20000|Sound||reads;rows KQkq -;game 1;first;play;press ArrowLeft;back;line 3;rows KQkq -;move Nb5;press ArrowLeft;history;line start;move a3|after 1. a3: excluded: no man of white's can come to be the pawn on a2 (travel)|0
 schweig|20000|Sound|1.Nc3 d6 2.Nd5|rows KQkq -;move Nd7;move a3;history;rows KQkq -|after 1. Nc3 d6 2. Nd5 Nd7: 1 of 27 moves leads on; cut 25 by captures, 1 by travel; 1 game below|0
 schweig|100|Sound||game 1;first;play;line 5;asks|after 1. Nc3 d6 2. Nd5 Nd7: not told on this page|1
+schweig|20000|Sound||game 1 3;marked c3-d5;here Nd5;flip;marked c3-d5;press ArrowLeft;marked d7-d6;here d6;flip;marked d7-d6;first;marked ;here |at the start: 4 of 20 moves lead on; cut 16 by travel; 1 game below|0
 four-games|20000|Cooked||reads;game 4;first;play;game 1;first;play;back;rows KQkq d6;address 1.e4 d5;last|after 1. e4 a6 2. e5 d5 3. exd6: a solution|0
 castling|20000|Sound||reads;game 1;first;play;back;next;press ArrowLeft;rows KQkq -|after 1. e4 g6 2. Ba6 Nxa6 3. Nf3 Nb8: 1 of 26 moves ends on the diagram|0
 castling-long|20000|Sound||reads;game 1;first;play|after 1. d3 c6 2. Bf4 Qa5+ 3. Nd2 Qxd2+ 4. Qxd2 f6 5. O-O-O: a solution|0

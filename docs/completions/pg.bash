@@ -20,7 +20,7 @@ _pg() {
     search) options="--nodes --minutes --bytes --games --journeys --tolls --no-journeys --help -h" valued=" --nodes --minutes --bytes --games " file_options=" --games " file_places=" 3 " ;;
     judge) options="--certificates --replace --nodes --minutes --bytes --journeys --help -h" valued=" --certificates --nodes --minutes --bytes " file_options=" --certificates " file_places=" 1 " ;;
     why) options="--records --journeys --help -h" valued=" --records " file_places=" 1 " ;;
-    page) options="--records --nodes --journeys --help -h" valued=" --records --nodes " file_places=" 1 " ;;
+    page) options="--records --nodes --out --title --author --journeys --help -h" valued=" --records --nodes --out --title --author " file_options=" --out " file_places=" 1 " ;;
     upgrade) options="--records --help -h" valued=" --records " file_places=" 1 2 " ;;
     help) options=$commands ;;
     *) return ;;

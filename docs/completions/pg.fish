@@ -94,10 +94,13 @@ complete -c pg -n '__pg_is why' -l journeys -d 'Changes nothing: journeys are as
 complete -c pg -n '__pg_is why' -s h -l help -d 'Print help'
 complete -c pg -n '__pg_is_at why 1 --records' -F
 complete -c pg -n '__pg_is page' -l records -x -d 'Refuses a certificate of more records [default: 100000000]'
-complete -c pg -n '__pg_is page' -l nodes -x -d 'The most expanded nodes that are shown [default: 20000]'
+complete -c pg -n '__pg_is page' -l nodes -x -d 'The most expanded nodes that are shown [default: 3000]'
+complete -c pg -n '__pg_is page' -l out -r -F -d 'Puts the page in FILE; nothing is printed then'
+complete -c pg -n '__pg_is page' -l title -x -d 'The title of the page, in place of the length'
+complete -c pg -n '__pg_is page' -l author -x -d 'The author of the problem, behind the title'
 complete -c pg -n '__pg_is page' -l journeys -d 'Changes nothing: journeys are asked always'
 complete -c pg -n '__pg_is page' -s h -l help -d 'Print help'
-complete -c pg -n '__pg_is_at page 1 --records --nodes' -F
+complete -c pg -n '__pg_is_at page 1 --records --nodes --out --title --author' -F
 complete -c pg -n '__pg_is upgrade' -l records -x -d 'Refuses a certificate of more records [default: 100000000]'
 complete -c pg -n '__pg_is upgrade' -s h -l help -d 'Print help'
 complete -c pg -n '__pg_is_at upgrade 1 --records' -F

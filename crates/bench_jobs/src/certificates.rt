@@ -23,7 +23,7 @@ const MOST: u64 = 60_000;
 
 const LEAST: usize = 4_000;
 
-// How many expanded nodes a page has at most: what the program takes.
+// How many expanded nodes a page has at most.
 const PAGE_NODES: u64 = 20_000;
 
 // A problem and its certificate, as texts and bytes that a stranger sends.

@@ -23,7 +23,7 @@ use pg_tolls::Tariff;
 use std::alloc::Global;
 
 // The most expanded nodes that are told, where the words do not say it.
-const NODES: u64 = 20_000;
+const NODES: u64 = 3_000;
 
 // Why there is no page, as a refusal.
 fn refusal_of(fault: PageFault) -> Refusal

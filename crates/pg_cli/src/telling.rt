@@ -11,7 +11,6 @@ use crate::refusals::{Named, Refusal};
 use crate::screen::Screen;
 use crate::spelling::text_of;
 use clap::ArgMatches;
-use either::Either;
 use pg_files::{Draft, Obstacle, begin, lead_to_one, size_of};
 use pg_report::{Bound, ToWrite};
 use pg_streams::{Cleared, Gathered, Passing, Terminal};
@@ -45,23 +44,6 @@ fn begin_page<R: Runtime + AllocGlobal>(
     }
 }
 
-// Where a command writes: to the file that was begun, or else to standard output.
-//
-// # Errors
-// `Open` where the file has no other handle.
-fn place_of<R: Runtime + AllocGlobal>(
-    rt: &R,
-    draft: &Option<Draft<R::File>>,
-) -> Result<Either<R::File, R::Writer>, Refusal> {
-    match draft {
-        Some(draft) => match draft.handle() {
-            Ok(file) => Ok(Either::Left(file)),
-            Err(fault) => Err(Refusal::of_file(fault, Named::Page)),
-        },
-        None => Ok(Either::Right(io::writer(rt))),
-    }
-}
-
 // Puts the file that was begun in its place after an answer, or else takes it away: what stood there is as it was then.
 //
 // # Errors
@@ -88,8 +70,7 @@ fn end_page<R: Runtime + AllocGlobal>(
     }
 }
 
-// Does a command on a certificate, and writes to a place. A status means that some list is the exact answer to the problem of its header. With
-// `answer` it is 0 where that list has one game, with `why` and `page` it is 0.
+// Does a command on a certificate, and writes to a place. A status says what that of `tell` does.
 #[inline(never)]
 fn tell_to<R: Runtime + AllocGlobal, F: Read + Drop, P: Write + Drop>(
     rt: &R,
@@ -139,8 +120,42 @@ fn tell_to<R: Runtime + AllocGlobal, F: Read + Drop, P: Write + Drop>(
     answer
 }
 
-// Does a command on a certificate, as `tell_to` does; a page that is wanted in a file is written beside its place, and
-// put there when it is whole.
+// Does a command on a certificate, as `tell_to` does, and writes to the file that was begun, or else to standard output.
+fn tell_in<R: Runtime + AllocGlobal, F: Read + Drop>(
+    rt: &R,
+    command: CertificateCommand,
+    words: &ArgMatches<'_>,
+    certificate: &mut Certificate<F>,
+    bounds: &[Box<dyn Bound>],
+    screen: bool,
+    draft: &Option<Draft<R::File>>,
+) -> Result<u8, Refusal>
+    ensures { IfOk result (λ status. says_of_certificate command
+        certificate.old.opened.diagram certificate.old.opened.plies status) }
+{
+    let Some(draft) = draft else {
+        return tell_to(
+            rt,
+            command,
+            words,
+            certificate,
+            bounds,
+            screen,
+            io::writer(rt),
+        );
+    };
+    match draft.handle() {
+        Ok(file) => tell_to(rt, command, words, certificate, bounds, screen, file),
+        Err(fault) => Err(Refusal::of_file(fault, Named::Page)),
+    }
+}
+
+// Does a command on a certificate. A status means that some list is the exact answer to the problem of its header. With
+// `answer` it is 0 where that list has one game, with `why` and `page` it is 0. A page that is wanted in a file is
+// written beside its place, and put there when it is whole.
+//
+// # Errors
+// Those of `begin_page`; those of the command; and why the file is not put in its place.
 pub(crate) fn tell<R: Runtime + AllocGlobal, F: Read + Drop>(
     rt: &R,
     command: CertificateCommand,
@@ -156,10 +171,14 @@ pub(crate) fn tell<R: Runtime + AllocGlobal, F: Read + Drop>(
         Ok(draft) => draft,
         Err(refusal) => return Err(refusal),
     };
-    let place = match place_of(rt, &draft) {
-        Ok(place) => place,
-        Err(refusal) => return end_page(rt, draft, Err(refusal)),
-    };
-    let answer = tell_to(rt, command, words, certificate, bounds, screen.lines, place);
+    let answer = tell_in(
+        rt,
+        command,
+        words,
+        certificate,
+        bounds,
+        screen.lines,
+        &draft,
+    );
     end_page(rt, draft, answer)
 }

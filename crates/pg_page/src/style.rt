@@ -27,7 +27,7 @@ button:hover:enabled, button:focus-visible { background: #dde6f2; }
 #line button, .move { padding: .1em .4em; margin: .1em 0; }
 #games li { margin: .3em 0; } #games li::marker { content: '(' counter(list-item) ') '; color: #444; }
 #games li:only-child { list-style: none; } #games button { padding: .1em .15em; border-color: transparent; background: none; }
-#games .here { background: #f0dc92; } details > #games { max-height: 22em; overflow: auto; }
+#games .here { background: #f0dc92; } details > #games { max-height: 22em; overflow: auto; margin-top: 0; }
 .rows { list-style: none; padding: 0; } .rows li { display: flex; align-items: baseline; padding: .15em 0; \
 border-bottom: 1px solid #ddd; }
 .move { flex: none; min-width: 4em; margin-right: .6em; text-align: left; font-weight: bold; }

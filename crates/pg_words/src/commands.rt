@@ -268,7 +268,7 @@ const NODES_LED: Word = Word {
 // The nodes of `pg page`.
 const NODES_TOLD: Word = Word {
     name: "nodes",
-    kind: Kind::Amount("K", "20000"),
+    kind: Kind::Amount("K", "3000"),
     help: "The most expanded nodes that are shown",
 };
 
