@@ -49,43 +49,10 @@ goes_on a b i x y h in_a in_b at_a at_b on =
 abbrev pub IsCounted : ℕ → Move → List Move → ℕ → ℕ → Type 0
 IsCounted colour m game ply count = count + plays colour ply m (drop ply game) ≡ plays colour 0 m game
 
-pub counts_on : (colour : ℕ) (m : Move) (game : List Move) (ply count : ℕ) (at : Move) (one : ℕ) → IsCounted colour m game ply count → ply < length game → at ≡ get_or game ply at → one ≡ played colour ply m at
-    → IsCounted colour m game (ply + 1) (count + one)
-counts_on colour m game ply count at one h within is same =
-    let left : drop ply game ≡ at ∷ drop (ply + 1) game = drop_more game ply at within ∙ ap (λ (x : Move). x ∷ drop (ply + 1) game) (sym is) in
-    let more : plays colour ply m (drop ply game) ≡ played colour ply m at + plays colour (ply + 1) m (drop (ply + 1) game) = ap (λ (x : List Move). plays colour ply m x) left in
-    omega (arith, h, more, same)
-
-pub counted : (colour : ℕ) (m : Move) (game : List Move) (ply count : ℕ) → IsCounted colour m game ply count → length game ≤ ply → count ≡ plays colour 0 m game
-counted colour m game ply count h past =
-    let none : plays colour ply m (drop ply game) ≡ 0 = ap (λ (x : List Move). plays colour ply m x) (drop_all ply game past) in
-    omega (arith, h, none)
-
 -- ---- whether two games agree on the moves of a game
 -- they do on all just where they do from here on
 abbrev pub IsOpen : List Move → List Move → List Move → ℕ → Type 0
 IsOpen game a b ply = agrees ply (drop ply game) a b ≡ agrees 0 game a b
-
-agrees_next : (game a b : List Move) (ply : ℕ) (m : Move) → ply < length game → m ≡ get_or game ply m
-    → agrees ply (drop ply game) a b ≡ (plays (ply % 2) 0 m a == plays (ply % 2) 0 m b) && agrees (ply + 1) (drop (ply + 1) game) a b
-agrees_next game a b ply m within is =
-    ap (λ (x : List Move). agrees ply x a b) (drop_more game ply m within ∙ ap (λ (x : Move). x ∷ drop (ply + 1) game) (sym is))
-
-pub agrees_on : (game a b : List Move) (ply : ℕ) (m : Move) (p q : ℕ) → IsOpen game a b ply → ply < length game → m ≡ get_or game ply m → p ≡ plays (ply % 2) 0 m a → q ≡ plays (ply % 2) 0 m b → p ≡ q
-    → IsOpen game a b (ply + 1)
-agrees_on game a b ply m p q h within is p_is q_is same =
-    let e : (plays (ply % 2) 0 m a == plays (ply % 2) 0 m b) ≡ true = eq-eqb (plays (ply % 2) 0 m a) (plays (ply % 2) 0 m b) (sym p_is ∙ same ∙ q_is) in
-    sym (ap (λ (t : Bool). t && agrees (ply + 1) (drop (ply + 1) game) a b) e) ∙ sym (agrees_next game a b ply m within is) ∙ h
-
-pub agrees_not : (game a b : List Move) (ply : ℕ) (m : Move) (p q : ℕ) → IsOpen game a b ply → ply < length game → m ≡ get_or game ply m → p ≡ plays (ply % 2) 0 m a → q ≡ plays (ply % 2) 0 m b → (p == q) ≡ false
-    → false ≡ agrees 0 game a b
-agrees_not game a b ply m p q h within is p_is q_is off =
-    let e : (plays (ply % 2) 0 m a == plays (ply % 2) 0 m b) ≡ false = subst (λ (k : ℕ). (k == plays (ply % 2) 0 m b) ≡ false) p_is (subst (λ (k : ℕ). (p == k) ≡ false) q_is off) in
-    sym (ap (λ (t : Bool). t && agrees (ply + 1) (drop (ply + 1) game) a b) e) ∙ sym (agrees_next game a b ply m within is) ∙ h
-
-pub agrees_all : (game a b : List Move) (ply : ℕ) → IsOpen game a b ply → length game ≤ ply → true ≡ agrees 0 game a b
-agrees_all game a b ply h past =
-    sym (ap (λ (x : List Move). agrees ply x a b) (drop_all ply game past)) ∙ h
 
 -- ---- texts
 same_game : (x g : List Move) (o : Option (List Move)) → o ≡ Some x → o ≡ Some g → g ≡ x

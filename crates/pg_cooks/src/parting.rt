@@ -59,7 +59,9 @@ fn agrees(game: &[Move], a: &[Move], b: &[Move]) -> bool
     ensures { result ≡ agrees 0 game.now a.now b.now }
 {
     for (ply, m) in game.iter().enumerate() {
-        if plays(ply % 2, m, a) != plays(ply % 2, m, b) {
+        let in_a = plays(ply % 2, m, a);
+        let in_b = plays(ply % 2, m, b);
+        if in_a != in_b {
             return false;
         }
     }

@@ -4,7 +4,7 @@ use Rattle.pg_cooks.proofs.PartingLemmas.{ends_first, ends_second, goes_on, part
 use Rattle.pg_cooks.proofs.parting.part.Goals as goal
 
 pub loop-i-init : goal.loop-i-init
-loop-i-init c = refl
+loop-i-init c = omega arith
 
 pub returns-then-i-b : goal.returns-then-i-b
 returns-then-i-b c = ends_second c.args.a.now c.args.b.now c.loop-i.i c.loop-i.invariant (omega arith)
@@ -20,4 +20,4 @@ loop-i-preserved c =
     goes_on c.args.a.now c.args.b.now c.loop-i.i c.index-a-i.result c.index-b-i.result c.loop-i.invariant (omega arith) (omega arith) c.index-a-i.is c.index-b-i.is on
 
 pub returns : goal.returns
-returns c = ends_first c.args.a.now c.args.b.now c.loop-i.i c.loop-i.invariant (omega arith)
+returns c = omega (arith, ends_first c.args.a.now c.args.b.now c.loop-i.i c.loop-i.invariant (omega arith))
