@@ -23,26 +23,31 @@ none_left (x ∷ xs) = refl
 -- one of them is at its end
 pub ends_first : (a b : List Move) (i : ℕ) → AreAlike a b i → length a ≤ i → i ≡ parting a b
 ends_first a b i h past =
+    let all : i + parting (drop i a) (drop i b) ≡ parting a b = h in
     let none : parting (drop i a) (drop i b) ≡ 0 = ap (λ (x : List Move). parting x (drop i b)) (drop_all i a past) in
-    omega (arith, h, none)
+    omega (arith, all, none)
 
 pub ends_second : (a b : List Move) (i : ℕ) → AreAlike a b i → length b ≤ i → i ≡ parting a b
 ends_second a b i h past =
+    let all : i + parting (drop i a) (drop i b) ≡ parting a b = h in
     let none : parting (drop i a) (drop i b) ≡ 0 = ap (λ (x : List Move). parting (drop i a) x) (drop_all i b past) ∙ none_left (drop i a) in
-    omega (arith, h, none)
+    omega (arith, all, none)
 
 -- the next plies differ, or are the same
 pub parts_here : (a b : List Move) (i : ℕ) (x y : Move) → AreAlike a b i → i < length a → i < length b → x ≡ get_or a i x → y ≡ get_or b i y → is_same x y ≡ false → i ≡ parting a b
 parts_here a b i x y h in_a in_b at_a at_b off =
+    let all : i + parting (drop i a) (drop i b) ≡ parting a b = h in
     let e : is_same (get_or a i x) (get_or b i y) ≡ false = subst (λ (m : Move). is_same m (get_or b i y) ≡ false) at_a (subst (λ (n : Move). is_same x n ≡ false) at_b off) in
     let none : parting (drop i a) (drop i b) ≡ 0 = common_prefix_len-drop_no is_same a b i x y in_a in_b e in
-    omega (arith, h, none)
+    omega (arith, all, none)
 
 pub goes_on : (a b : List Move) (i : ℕ) (x y : Move) → AreAlike a b i → i < length a → i < length b → x ≡ get_or a i x → y ≡ get_or b i y → is_same x y ≡ true → AreAlike a b (i + 1)
 goes_on a b i x y h in_a in_b at_a at_b on =
+    let all : i + parting (drop i a) (drop i b) ≡ parting a b = h in
     let e : is_same (get_or a i x) (get_or b i y) ≡ true = subst (λ (m : Move). is_same m (get_or b i y) ≡ true) at_a (subst (λ (n : Move). is_same x n ≡ true) at_b on) in
     let more : parting (drop i a) (drop i b) ≡ 1 + parting (drop (i + 1) a) (drop (i + 1) b) = common_prefix_len-drop_yes is_same a b i x y in_a in_b e in
-    omega (arith, h, more)
+    let next : (i + 1) + parting (drop (i + 1) a) (drop (i + 1) b) ≡ parting a b = omega (arith, all, more) in
+    next
 
 -- ---- how often a move is played
 -- so often before this ply, and the rest of it from here on
@@ -52,14 +57,17 @@ IsCounted colour m game ply count = count + plays colour ply m (drop ply game) �
 pub counts_on : (colour : ℕ) (m : Move) (game : List Move) (ply count : ℕ) (at : Move) (one : ℕ) → IsCounted colour m game ply count → ply < length game → at ≡ get_or game ply at → one ≡ played colour ply m at
     → IsCounted colour m game (ply + 1) (count + one)
 counts_on colour m game ply count at one h within is same =
+    let all : count + plays colour ply m (drop ply game) ≡ plays colour 0 m game = h in
     let left : drop ply game ≡ at ∷ drop (ply + 1) game = drop_more game ply at within ∙ ap (λ (x : Move). x ∷ drop (ply + 1) game) (sym is) in
     let more : plays colour ply m (drop ply game) ≡ played colour ply m at + plays colour (ply + 1) m (drop (ply + 1) game) = ap (λ (x : List Move). plays colour ply m x) left in
-    omega (arith, h, more, same)
+    let next : (count + one) + plays colour (ply + 1) m (drop (ply + 1) game) ≡ plays colour 0 m game = omega (arith, all, more, same) in
+    next
 
 pub counted : (colour : ℕ) (m : Move) (game : List Move) (ply count : ℕ) → IsCounted colour m game ply count → length game ≤ ply → count ≡ plays colour 0 m game
 counted colour m game ply count h past =
+    let all : count + plays colour ply m (drop ply game) ≡ plays colour 0 m game = h in
     let none : plays colour ply m (drop ply game) ≡ 0 = ap (λ (x : List Move). plays colour ply m x) (drop_all ply game past) in
-    omega (arith, h, none)
+    omega (arith, all, none)
 
 -- ---- whether two games agree on the moves of a game
 -- they do on all just where they do from here on
