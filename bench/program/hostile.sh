@@ -822,8 +822,10 @@ if command -v script >/dev/null; then
   [ "$(cat "$work/said-of-journeys")" = "pg: this reaches further: pg solve $queen 2.0 --minutes 10" ] && [ ! -s "$work/said-of-tolls" ] ||
     { echo "not told which command reaches further" >&2; wrong=1; }
   says "'$pg' search $queen 3.0 new.pgc" 'pg: a game of 4 plies reaches the diagram' 'pg: try the length 2.0'
-  says "'$pg' search $schweig 4.0 new.pgc --minutes 0" 'pg: time limit reached' 'pg: 0 nodes, tree 0.0 of 4.0' \
-    "pg: this reaches further: pg solve $schweig 4.0 --minutes 10" 'pg: try `pg cooks` with a game, `pg show DIAGRAM LENGTH` for a forecast, or more --minutes'
+  on_terminal "'$pg' search $schweig 4.0 new.pgc --minutes 0" >"$work/said"
+  printf '%s\n' 'pg: time limit reached' "pg: this reaches further: pg solve $schweig 4.0 --minutes 10" \
+    'pg: try `pg cooks` with a game, `pg show DIAGRAM LENGTH` for a forecast, or more --minutes' | diff - <(sed 2d "$work/said") >&2 &&
+    sed -n 2p "$work/said" | grep -q '^pg: [0-9]* nodes\?, tree [0-9.]* of 4.0$' || { echo "a search whose time is over does not tell how far it is" >&2; wrong=1; }
   says "'$pg' search $cooked 3.5 new.pgc --nodes 8312" 'pg: node limit reached' 'pg: 8307 nodes, tree 3.5 of 3.5' 'pg: 2 games known: not sound' \
     "pg: this reaches further: pg solve $cooked 3.5 --minutes 10" 'pg: try `pg cooks` with a game, `pg show DIAGRAM LENGTH` for a forecast, or more --nodes'
 
