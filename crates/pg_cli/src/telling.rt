@@ -156,6 +156,7 @@ fn tell_in<R: Runtime + AllocGlobal, F: Read + Drop>(
 //
 // # Errors
 // Those of `begin_page`; those of the command; and why the file is not put in its place.
+#[inline(never)]
 pub(crate) fn tell<R: Runtime + AllocGlobal, F: Read + Drop>(
     rt: &R,
     command: CertificateCommand,

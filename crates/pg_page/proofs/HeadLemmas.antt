@@ -90,12 +90,12 @@ board_grows d x placement a b c e f g h i is_board is_placement p q r s t u v =
     Appends-trans a b i board_start (men_text d 64 ++ x2) p (Appends-trans b c i (men_text d 64) x2 q2 h2)
 
 -- ---- what stands before the games
-pub framed_grows : (begin given before text behind : List ℕ) (a b c e f : Option (List ℕ)) → begin ≡ given
+pub framed_grows : (begin said before text behind : List ℕ) (a b c e f : Option (List ℕ)) → begin ≡ said
     → Appends a b begin → Appends b c before → Appends c e text → Appends e f behind
-    → Appends a f (given ++ (before ++ (text ++ behind)))
-framed_grows begin given before text behind a b c e f is_given p q r s =
-    let p2 : Appends a b given = subst (λ (y : List ℕ). Appends a b y) is_given p in
-    Appends-trans a b f given (before ++ (text ++ behind)) p2 (Appends-trans b c f before (text ++ behind) q (Appends-trans c e f text behind r s))
+    → Appends a f (said ++ (before ++ (text ++ behind)))
+framed_grows begin said before text behind a b c e f is_said p q r s =
+    let p2 : Appends a b said = subst (λ (y : List ℕ). Appends a b y) is_said p in
+    Appends-trans a b f said (before ++ (text ++ behind)) p2 (Appends-trans b c f before (text ++ behind) q (Appends-trans c e f text behind r s))
 
 pub front_grows : (d : Placement) (plies n : ℕ) (title author placement length : List ℕ) (a b c e f g h i : Option (List ℕ)) → placement ≡ placement_text d → length ≡ length_text plies → n ≡ plies
     → Appends a b (named_text (caption_text title author length)) → Appends b c (escaped placement) → Appends c e (asked length) → Appends e f (decimal n) → Appends f g (codes "\">\n") → Appends g h (headed_text (caption_text title author length)) → Appends h i (board_text d)

@@ -16,7 +16,7 @@ abbrev pub AddsHead : Placement → ℕ → List ℕ → List ℕ → Answered �
 AddsHead d n title author a before after =
     (head : List ℕ) × (rest : List ℕ) × IsHead d n title author a head × Appends before after (head ++ rest)
 
--- an answer is the exact one, the known bytes are a certificate for it, and its page is appended, with a title and an author
+-- an answer is the exact one, the known bytes are a certificate for it, and its page is appended, with a title and author
 abbrev pub IsShown : Terms → Placement → ℕ → List ℕ → List ℕ → Option (List ℕ) → Option (List ℕ) → Type 0
 IsShown t d n title author before after =
     (a : Answered) × IsExactAnswer d n a.games × IsProvedBy t d n a × AddsHead d n title author a before after

@@ -9,7 +9,7 @@ use pg_tolls::Tolls;
 const CERTIFICATE: &str =
     "2 rnbqkbnr/pppp1ppp/8/4p3/8/5N2/PPPPPPPP/RNBQKB1R 1.0 | 0204 01 0206*2 01 0206*17";
 
-const SAID: &str = "$BQNa3:6white and black together need 3 plies and have 1 (tolls)$
+const SAID: &str = "$BQNa3:6white and black together need 3 plies and have 1 (tolls)$BSNc3:6~1$
 $) 1 of 20 moves leads on; cut 19 by tolls; 1 game below$
 $LTd3:6the pawn on d2 of the diagram has left its square (tolls)$
 data-tariffs=\"1\"></div>$";
