@@ -276,6 +276,78 @@ done <<END
 3|# 1\narray $array 0 e4 e5 - - *\n.|line 2: the author's game: ply 3: not a move\npg: line 3: bad name|$(fails_row 'ply 3')
 2|array $array 0 -\narray $array 0 -\n|line 2: this name stands above|$array_row
 END
+# A byte order mark at the front is passed over. With --hints second lines say where a line is wrong and what is meant, as
+# on a terminal, and at the end how many problems had which verdict, in which time.
+printf '\xef\xbb\xbfarray %s 0 -' $array >"$work/list"
+expect 0 '' '"$pg" judge ../list' "$array_row"
+cat >"$work/list" <<END
+Orbán $array 0
+No.12: $array 0
+queen;$array;2.0
+My Queen $array 0
+six $position 2.0
+comma $array 2,0
+$array 2.0
+x 2.0 $array
+x $array
+x ${array/8/9} 2.0
+array $array 0 -
+b $array 0 1. e4 Dd5
+c $array 1.0 1. e4
+d $array 0.5 1. e4
+$(printf 'x \xff 2')
+END
+expect 3 '' '"$pg" judge ../list --hints 2>&1 | sed "s/; [0-9]*[.][0-9] s\$//"; exit "${PIPESTATUS[0]}"' "pg: line 1: bad name
+pg: line 1, column 4: 'á' (U+00E1) in the name; letters are a to z and A to Z
+pg: line 2: bad name
+pg: line 2, column 6: no ':' stands in a name: write No.12
+pg: line 3: bad name
+pg: line 3, column 6: write spaces or tabs for ';' between a name, a diagram and a length
+pg: line 4: bad rank
+pg: line 4, column 4: a name is one word: write My_Queen
+pg: line 5: bad length
+pg: line 5, column 49: the length stands behind the first field of the FEN: leave the others out
+pg: line 6: bad length
+pg: line 6, column 51: a length is in moves: write 2.0
+pg: line 7: bad name
+pg: line 7, column 1: a name stands before the diagram
+pg: line 8: bad rank
+pg: line 8, column 3: the diagram stands before the length
+pg: line 9: a name, a diagram and a length are wanted
+pg: line 9, column 3: a length stands behind the diagram, as 2.0 or 2.5
+pg: line 10: bad rank
+pg: line 10, column 3: rank 6 is 1 square wide, not 8
+$array_row
+pg: line 12: the author's game: ply 2: not a move
+pg: line 12: the word is \"Dd5\"; men are K, Q, R, B and N, as in English
+$(row b 0.0 sound 'fails, ply 2' 'search, 0 nodes' -)
+pg: line 13: the author's game: it does not have the stated length
+pg: line 13: it has 0.5 moves, 1.0 are wanted
+$(row c 1.0 'not sound' 'fails, 1 ply' 'search, 0 nodes' 'a game of 0 plies: -')
+pg: line 14: the author's game: it does not end on the diagram
+pg: line 14: it ends on rnbqkbnr/pppppppp/8/8/4P3/8/PPPP1PPP/RNBQKBNR
+pg: e2: empty there, white pawn on the diagram
+pg: e4: white pawn there, empty on the diagram
+$(row d 0.5 'not sound' 'fails, ends elsewhere' 'search, 0 nodes' 'a game of 0 plies: -')
+pg: line 15: not UTF-8
+pg: line 15: the first bad byte is byte 3
+pg: 4 entries: 2 sound, 2 not sound; 3 authors' games fail; 11 lines are bad"
+expect 2 $'pg: bad rank\npg: 2 ranks; a board has 8' '"$pg" show 8/8 --hints' ''
+expect 2 $'pg: bad rank\npg: 2 ranks; a board has 8' '"$pg" --hints show 8/8' ''
+expect 2 $'pg: a pawn stands on rank 1 or 8\npg: white pawn on d1' '"$pg" show ${array/Q/P} --hints' ''
+expect 2 $'pg: bad rank\npg: the diagram stands before the length' '"$pg" games 2.0 $open games --hints' ''
+expect 2 $'pg: games are not UTF-8\npg: it looks like a certificate; CERT stands before GAMES' '"$pg" check $queen 2.0 games good.pgc --hints' ''
+expect 4 $'pg: cannot open e4 e5\npg: No such file or directory (os error 2)\npg: it looks like a game; a file with one game a line is wanted' \
+  '"$pg" games $open 1.0 "e4 e5" --hints' ''
+expect 2 "error: unexpected argument '-j' found
+
+  tip: to pass '-j' as a value, use '-- -j'
+
+Usage: pg_cli answer [OPTIONS] <CERT>
+
+For more information, try '--help'.
+pg: two hyphens stand before an option: --journeys" '"$pg" answer good.pgc -journeys --hints' ''
+
 printf 'orders %s 1.5\n' $orders >"$work/list"
 expect 1 '' '"$pg" judge ../list --nodes 0' "$(row orders 1.5 'not settled' - 'journeys, 0 nodes' '0 games met; limit reached')"
 expect 4 'pg: cannot open none' '"$pg" judge none' ''

@@ -5,7 +5,7 @@ _pg() {
   commands="solve show moves count games cooks check answer search judge why page upgrade help"
   COMPREPLY=()
   if [ "$COMP_CWORD" = 1 ]; then
-    mapfile -t COMPREPLY < <(compgen -W "$commands --help -h --version -V" -- "$cur")
+    mapfile -t COMPREPLY < <(compgen -W "$commands --hints --help -h --version -V" -- "$cur")
     return
   fi
   case ${COMP_WORDS[1]} in

@@ -27,6 +27,7 @@ function __pg_is_at
 end
 
 complete -c pg -f
+complete -c pg -n '__fish_use_subcommand' -l hints -d 'Says what may help, as on a terminal'
 complete -c pg -n '__fish_use_subcommand' -s h -l help -d 'Print help'
 complete -c pg -n '__fish_use_subcommand' -s V -l version -d 'Print version'
 complete -c pg -n __fish_use_subcommand -a solve -d 'Says of one problem whether it is sound, with the games'

@@ -4,7 +4,7 @@ use Rattle.std.specs.Prelude.{◌≡◌, ◌⊎◌, ℕ, max, Bool, true, List, 
 use Rattle.clap.specs.Words.{Text}
 use Rattle.pg_certificate.specs.Pushing.{AddsSome}
 use Rattle.pg_san.specs.GameText.{lines}
-use Rattle.pg_judge.specs.Entries.{IsEntry, IsEntryFault, IsSkipped}
+use Rattle.pg_judge.specs.Entries.{IsEntry, IsEntryFault, IsSkipped, IsUnmarked}
 use Rattle.pg_judge.specs.Rows.{IsRowOf}
 use Rattle.pg_judge.specs.Ruling.{IsFindingOf, IsGiven, IsSaidSound}
 use Rattle.pg_judge.specs.declared.entry.Entry.{Entry}
@@ -86,7 +86,8 @@ abbrev pub IsCutOff : List ℕ → Option (List ℕ) → Option (List ℕ) → B
 IsCutOff text before after failed Memory = AddsSome (AreJudgedSoFar text) before after
 IsCutOff text before after failed refusal = EndsRun failed refusal
 
--- what a status of `pg judge` says: the lines of a text that the word PROBLEMS gives are judged, with this status
+-- what a status of `pg judge` says: the lines of a text that the word PROBLEMS gives, but for a byte order mark at its
+-- front, are judged, with this status
 abbrev pub IsListJudged : (Text → List ℕ → Type 0) → Text → ℕ → Type 0
-IsListJudged Gives name status =
-    (text : List ℕ) × Gives name text × (rows : List ℕ) × AreJudged (lines text) status rows
+IsListJudged Gives name status = (text : List ℕ) × Gives name text × (rest : List ℕ) × IsUnmarked text rest
+    × (rows : List ℕ) × AreJudged (lines rest) status rows

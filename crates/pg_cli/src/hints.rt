@@ -1,14 +1,15 @@
-//! Second lines, on a terminal alone, behind the line that says why a command has no answer: what is wrong in a text or
-//! a file, and what to try. They take no part in any answer.
+//! Second lines, on a terminal or with `--hints`, behind the line that says why a command has no answer: what is wrong in
+//! a text or a file, and what to try. They take no part in any answer.
 
 use crate::lists::{tell_byte, tell_list, tell_misfit};
-use crate::refusals::{Reached, Refusal};
+use crate::refusals::{Named, Reached, Refusal};
 use crate::spelling::{say_tolls, text_of};
 use clap::ArgMatches;
 use pg_fen::LengthFault;
 use pg_files::first_bytes;
 use pg_hints::{
-    Hint, is_fen_in_words, meant_by, on_diagram, on_known, on_length, on_limit, packing_of,
+    Hint, hyphen_wanted_in, is_fen_in_words, is_like_game, meant_by, on_diagram, on_known,
+    on_length, on_limit, packing_of,
 };
 use pg_journeys::Journeys;
 use pg_report::{
@@ -46,6 +47,14 @@ fn tell_length<R: Eprint>(rt: &R, words: &ArgMatches<'_>) {
     let _ = eprintln!(rt; "pg: a length is in moves, as 2.0 or 2.5");
     if let Some(length) = meant_by(text_of(words, "LENGTH")) {
         tell(rt, &on_length(length.plies()));
+    }
+}
+
+// Says that a game stands where the name of a list is wanted.
+fn tell_game<R: Eprint>(rt: &R, words: &ArgMatches<'_>, named: Named) {
+    let is_list = matches!(named, Named::Games | Named::Kept);
+    if is_list && is_like_game(text_of(words, named.word())) {
+        let _ = eprintln!(rt; "pg: it looks like a game; a file with one game a line is wanted");
     }
 }
 
@@ -143,7 +152,10 @@ fn tell_check<R: Runtime + AllocGlobal>(rt: &R, words: &ArgMatches<'_>, fault: &
 // Says what may help where a command of these words has no answer.
 pub(crate) fn advise<R: Runtime + AllocGlobal>(rt: &R, words: &ArgMatches<'_>, refusal: &Refusal) {
     match refusal {
-        Refusal::Open(_, obstacle) => tell_value(rt, *obstacle),
+        Refusal::Open(named, obstacle) => {
+            tell_value(rt, *obstacle);
+            tell_game(rt, words, *named);
+        }
         Refusal::GaveUp(fault, known) => tell_known(rt, words, fault, known),
         Refusal::Full(known) => tell_full(rt, known),
         Refusal::Late(known) => tell_late(rt, words, known),
@@ -165,5 +177,8 @@ pub(crate) fn advise<R: Runtime + AllocGlobal>(rt: &R, words: &ArgMatches<'_>, r
 pub(crate) fn advise_words<R: Eprint>(rt: &R, words: &[String]) {
     if is_fen_in_words(words) {
         let _ = eprintln!(rt; "pg: quote the FEN: it is one word");
+    }
+    if let Some(word) = hyphen_wanted_in(words) {
+        let _ = eprintln!(rt; "pg: two hyphens stand before an option: -{word}");
     }
 }

@@ -16,7 +16,7 @@ ghost use Rattle.pg_cli.specs.Words.{spelled};
 use crate::bounds::{journeys_to, tolls_to, travel_to};
 use crate::keeping::{Loose, OnDisk};
 use crate::limits::{Reach, reach_of};
-use crate::problems::{AtPlace, count_problems, say_bad, say_given};
+use crate::problems::{AtPlace, FAILS, Tally, count_problems, say_bad};
 use crate::refusals::{Named, Refusal};
 use crate::screen::Screen;
 use crate::spelling::{say_replace, text_of};
@@ -31,7 +31,7 @@ use pg_files::{
 use pg_judge::{
     Enough, Entry, EntryFault, Finding, Given, JudgeProgress, Limits, Old, Prepared, Ruling,
     Scratch, Unsettled, given_to, is_sound, judge as judge_problem, judge_by_tolls, prepare_tolls,
-    read_entry, recheck, time_is_over, unsettled_of, write_row,
+    read_entry, recheck, time_is_over, unmarked, unsettled_of, write_row,
 };
 use pg_pawns::PawnFiles;
 use pg_san::{GamesFault, next_line};
@@ -48,9 +48,6 @@ pub(crate) const NODES: u64 = 100_000_000;
 
 // A problem is not sound, or not settled.
 const OTHER: u8 = 1;
-
-// The author's game does not solve its problem.
-const FAILS: u8 = 3;
 
 // Where the certificate of a problem is kept.
 #[derive(Clone, Copy)]
@@ -520,7 +517,7 @@ fn judge_and_tell<R: Runtime + AllocGlobal, W: Sink>(
     rt: &R,
     entry: &Entry<'_>,
     orders: &Orders<'_>,
-    turn: Turn,
+    seen: &mut Count,
     terminal: &Terminal,
     out: &mut Gathered<W>,
 ) -> Result<u8, Spoiled>
@@ -530,14 +527,16 @@ fn judge_and_tell<R: Runtime + AllocGlobal, W: Sink>(
     ensures err { IfErr result (IsSpoiled (⟦<Gathered<W> as Sink>⟧.has_failed out.new)) }
     ensures unwritten { IfErr result (λ spoiled. spoiled ≢ Spoiled.Run Refusal.Write → out.new ≡ out.old) }
 {
+    seen.turn.number = seen.turn.number.saturating_add(1);
     let plies = entry.problem.length.plies();
-    let mut watch = Watch::new(rt, terminal, turn, plies, orders.reach.milliseconds);
+    let mut watch = Watch::new(rt, terminal, seen.turn, plies, orders.reach.milliseconds);
     let answer = judge_entry(rt, entry, orders, &mut watch);
     watch.line.end();
     let judged = match answer {
         Ok(judged) => judged,
         Err(spoiled) => return Err(spoiled),
     };
+    seen.tally.count(&judged.ruling.finding);
     match write_row(entry, &judged.ruling, judged.old, out) {
         Ok(()) => {}
         Err(_) => return Err(Spoiled::Run(Refusal::Write)),
@@ -583,9 +582,8 @@ fn judge_line<'t, R: Runtime + AllocGlobal, W: Sink>(
         Ok(false) => return Ok(say_bad(rt, seen.lines, "this name stands above")),
         Err(_) => return Err(Refusal::Memory),
     }
-    say_given(rt, seen.lines, &entry);
-    seen.turn.number = seen.turn.number.saturating_add(1);
-    match judge_and_tell(rt, &entry, orders, seen.turn, terminal, out) {
+    seen.count.tally.say_given(rt, seen.lines, line, &entry);
+    match judge_and_tell(rt, &entry, orders, &mut seen.count, terminal, out) {
         Ok(status) => Ok(status),
         Err(Spoiled::Run(refusal)) => Err(refusal),
         Err(Spoiled::Place(fault)) => {
@@ -599,12 +597,19 @@ fn judge_line<'t, R: Runtime + AllocGlobal, W: Sink>(
     }
 }
 
-// What came before a line: how many lines, the names of the problems, and how many of all these are.
+// How many problems of how many came before a line, and what was found of them.
+#[derive(Drop)]
+struct Count {
+    turn: Turn,
+    tally: Tally,
+}
+
+// What came before a line: how many lines, and the names of the problems.
 #[derive(Drop)]
 struct Seen<'t> {
     lines: usize,
     names: BTreeSet<&'t str>,
-    turn: Turn,
+    count: Count,
 }
 
 // Judges the problems of a text and hands on their rows: the worst status of a line, which is 2 where the line is bad.
@@ -615,6 +620,7 @@ fn judge_all<R: Runtime + AllocGlobal, W: Sink>(
     rt: &R,
     text: &[u8],
     orders: &Orders<'_>,
+    tally: Tally,
     terminal: &Terminal,
     out: &mut Gathered<W>,
 ) -> Result<u8, Refusal>
@@ -629,9 +635,12 @@ fn judge_all<R: Runtime + AllocGlobal, W: Sink>(
     let mut seen = Seen {
         lines: 0,
         names: BTreeSet::new(rt.alloc()),
-        turn: Turn {
-            number: 0,
-            count: count_problems(text),
+        count: Count {
+            turn: Turn {
+                number: 0,
+                count: count_problems(text),
+            },
+            tally,
         },
     };
     let mut worst = 0u8;
@@ -643,8 +652,10 @@ fn judge_all<R: Runtime + AllocGlobal, W: Sink>(
             Ok(status) => status,
             Err(refusal) => return Err(refusal),
         };
+        seen.count.tally.end_line(rt, seen.lines, line, status);
         worst = worst.max(status);
     }
+    seen.count.tally.end(rt);
     Ok(worst)
 }
 
@@ -704,5 +715,7 @@ pub(crate) fn judge<R: Runtime + AllocGlobal>(
     };
     let terminal = Terminal::new(screen.lines);
     let mut out = Gathered::new(Cleared::new(ToWrite::new(io::writer(rt)), rt, &terminal));
-    judge_all(rt, text.as_slice(), &orders, &terminal, &mut out)
+    let tally = Tally::new(rt, screen.hints);
+    let text = unmarked(text.as_slice());
+    judge_all(rt, text, &orders, tally, &terminal, &mut out)
 }

@@ -1,4 +1,4 @@
-//! Second lines, on a terminal alone, on a list of games that is refused, where it can be read again.
+//! Second lines on a list of games that is refused, where it can be read again.
 
 use crate::spelling::text_of;
 use clap::ArgMatches;
@@ -40,11 +40,20 @@ fn list_again<R: Runtime + AllocGlobal>(rt: &R, words: &ArgMatches<'_>) -> Optio
     read_all(rt.alloc(), &mut file).ok()
 }
 
+// Whether bytes begin as a certificate, or as tariffs before one.
+fn is_certificate(bytes: &[u8]) -> bool {
+    bytes.starts_with(b"PGC") || bytes.starts_with(b"PGT")
+}
+
 // Says where a list is no text.
 pub(crate) fn tell_byte<R: Runtime + AllocGlobal>(rt: &R, words: &ArgMatches<'_>) {
     let Some(list) = list_again(rt, words) else {
         return;
     };
+    if is_certificate(list.as_slice()) {
+        let _ = eprintln!(rt; "pg: it looks like a certificate; CERT stands before GAMES");
+        return;
+    }
     if let Some(place) = bad_byte(list.as_slice()) {
         let (line, byte) = (place.line, place.byte);
         let _ = eprintln!(rt; "pg: the first bad byte is byte {byte} of line {line}");
@@ -107,23 +116,17 @@ fn tell_squares<R: Eprint>(rt: &R, end: &Board, wanted: &Board) {
     }
 }
 
-// Says how many moves a game has, and how many are wanted.
-fn tell_moves<R: Eprint>(rt: &R, words: &ArgMatches<'_>, game: &Misfit) {
-    let Ok(wanted) = Length::read(text_of(words, "LENGTH")) else {
-        return;
-    };
-    let (line, wanted) = (game.line, wanted.write());
+// Says how many moves the game of a line has, and how many are wanted.
+pub(crate) fn tell_moves<R: Eprint>(rt: &R, line: usize, game: &Misfit, wanted: Length) {
     let (moves, half) = (game.plies / 2, game.plies % 2 * 5);
+    let wanted = wanted.write();
     let wanted = wanted.as_str();
     let _ = eprintln!(rt; "pg: line {line}: it has {moves}.{half} moves, {wanted} are wanted");
 }
 
-// Says where a game ends, and on which squares that is not the diagram.
-fn tell_end<R: Eprint>(rt: &R, words: &ArgMatches<'_>, game: &Misfit) {
-    let Ok(wanted) = Diagram::read(text_of(words, "DIAGRAM")) else {
-        return;
-    };
-    let (line, end) = (game.line, game.end.write());
+// Says where the game of a line ends, and on which squares that is not the diagram.
+pub(crate) fn tell_end<R: Eprint>(rt: &R, line: usize, game: &Misfit, wanted: &Diagram) {
+    let end = game.end.write();
     let _ = eprintln!(rt; "pg: line {line}: it ends on {}", end.as_str());
     tell_squares(rt, &game.end.board(), &wanted.board());
 }
@@ -147,7 +150,15 @@ pub(crate) fn tell_misfit<R: Runtime + AllocGlobal>(
         return;
     };
     match fault {
-        ListFault::WrongLength(_) => tell_moves(rt, words, &game),
-        ListFault::NotReaching(_) => tell_end(rt, words, &game),
+        ListFault::WrongLength(_) => {
+            if let Ok(wanted) = Length::read(text_of(words, "LENGTH")) {
+                tell_moves(rt, game.line, &game, wanted);
+            }
+        }
+        ListFault::NotReaching(_) => {
+            if let Ok(wanted) = Diagram::read(text_of(words, "DIAGRAM")) {
+                tell_end(rt, game.line, &game, &wanted);
+            }
+        }
     }
 }

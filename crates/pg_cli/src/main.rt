@@ -44,7 +44,7 @@ use crate::commands::{Command, OtherCommand, ProblemCommand};
 use crate::hints::{advise, advise_words};
 use crate::limits::{are_minutes, is_amount};
 use crate::refusals::{BAD_INPUT, DONE, NO_FILE, Refusal, refuse};
-use crate::screen::{Screen, is_dumb};
+use crate::screen::{Screen, ask_for_hints, is_dumb};
 use crate::spelling::{nameless_in, say_journeys, say_no_journeys, say_tolls, text_of};
 use crate::telling::tell;
 use clap::ArgMatches;
@@ -329,7 +329,7 @@ fn run<R: Runtime + AllocGlobal>(rt: &R, words: &ArgMatches<'_>, screen: Screen)
         Ok(status) => status,
         Err(refusal) => {
             let status = refuse(rt, &refusal, file_of(inner, &refusal));
-            if screen.errors {
+            if screen.hints {
                 advise(rt, inner, &refusal);
             }
             status
@@ -361,7 +361,7 @@ fn obey<R: Runtime + AllocGlobal>(rt: &R, words: &[String], screen: Screen) -> u
         Ok(matches) => run(rt, &matches, screen),
         Err(error) => {
             let status = explain(rt, &error);
-            if screen.errors {
+            if screen.hints {
                 advise_words(rt, words);
             }
             status
@@ -391,15 +391,16 @@ fn main(rt: HostRuntime) -> ExitCode {
     let _input = File::open(&rt, "/");
     let _output = File::open(&rt, "/");
     let _errors = File::open(&rt, "/");
+    let words = match all_words(&rt) {
+        Ok(words) => words,
+        Err(refusal) => return ExitCode::from(refuse(&rt, &refusal, NO_FILE)),
+    };
     let errors = rt.stderr().is_terminal();
     let screen = Screen {
         input: rt.stdin().is_terminal(),
         output: rt.stdout().is_terminal(),
-        errors,
+        hints: errors || ask_for_hints(words.as_slice()),
         lines: errors && !is_dumb(&rt),
     };
-    ExitCode::from(match all_words(&rt) {
-        Ok(words) => obey(&rt, words.as_slice(), screen),
-        Err(refusal) => refuse(&rt, &refusal, NO_FILE),
-    })
+    ExitCode::from(obey(&rt, words.as_slice(), screen))
 }

@@ -1,4 +1,4 @@
-//! Which of the standard streams are terminals.
+//! Which of the standard streams are terminals, and whether second lines are told.
 
 use std::env;
 use std::rt::Runtime;
@@ -8,9 +8,15 @@ use std::rt::Runtime;
 pub(crate) struct Screen {
     pub(crate) input: bool,
     pub(crate) output: bool,
-    pub(crate) errors: bool,
+    /// Whether second lines are told on that of errors: where it is one, or the words ask for them.
+    pub(crate) hints: bool,
     /// Whether that of errors understands escape sequences, so that a line on it can be taken away.
     pub(crate) lines: bool,
+}
+
+// Whether the words ask for second lines where no terminal is.
+pub(crate) fn ask_for_hints(words: &[String]) -> bool {
+    words.iter().any(|word| word.as_str() == "--hints")
 }
 
 // Whether the terminal is said to understand no escape sequences.

@@ -1,7 +1,7 @@
 //! What is wrong with a text that is no diagram.
 
 use crate::Hint;
-use pg_fen::{FenFault, man_of, next_field};
+use pg_fen::{FenFault, Length, man_of, next_field};
 use std::fmt;
 use std::fmt::Write;
 
@@ -64,12 +64,32 @@ fn rank_width(rank: &str) -> u32 {
     width
 }
 
+// Whether a character may stand in a placement.
+fn may_stand(letter: char) -> bool {
+    letter == '/'
+        || matches!(letter, '1'..='8')
+        || letter.is_ascii() && man_of(letter as u8).is_some()
+}
+
+// The first character of a rank that may not stand in a placement, where the rank is 8 squares wide without it.
+fn stranger_in(rank: &str) -> Option<char> {
+    let letter = rank.chars().find(|letter| !may_stand(*letter))?;
+    if rank_width(rank) == 9 {
+        Some(letter)
+    } else {
+        None
+    }
+}
+
 // Says which rank is too wide or too narrow.
 fn write_width(placement: &str, hint: &mut Hint) -> fmt::Result {
     let mut number = 8u8;
     for rank in placement.split('/') {
         let width = rank_width(rank);
         if width != 8 {
+            if let Some(letter) = stranger_in(rank) {
+                return write!(hint, "{letter:?} in rank {number} is no man and no number");
+            }
             let squares = if width == 1 { "square" } else { "squares" };
             return write!(hint, "rank {number} is {width} {squares} wide, not 8");
         }
@@ -83,16 +103,12 @@ fn write_ranks(text: &str, hint: &mut Hint) -> fmt::Result {
     let slashes = times(b'/', first_field(text.as_bytes()));
     match slashes {
         7 => write_width(placement_of(text), hint),
+        0 if Length::read(text.trim()).is_ok() => {
+            write!(hint, "the diagram stands before the length")
+        }
         0 => write!(hint, "1 rank; a board has 8"),
         _ => write!(hint, "{} ranks; a board has 8", slashes.saturating_add(1)),
     }
-}
-
-// Whether a character may stand in a placement.
-fn may_stand(letter: char) -> bool {
-    letter == '/'
-        || matches!(letter, '1'..='8')
-        || letter.is_ascii() && man_of(letter as u8).is_some()
 }
 
 // Says which letter of which rank is no man's.
@@ -100,10 +116,12 @@ fn write_letter(placement: &str, hint: &mut Hint) -> fmt::Result {
     let mut number = 8u8;
     for letter in placement.chars() {
         if !may_stand(letter) {
-            return write!(
-                hint,
-                "{letter:?} in rank {number}; men are KQRBNP and kqrbnp"
-            );
+            write!(hint, "{letter:?}")?;
+            if !letter.is_ascii() {
+                let code = u32::from(letter);
+                write!(hint, " (U+{code:04X})")?;
+            }
+            return write!(hint, " in rank {number}; men are KQRBNP and kqrbnp");
         }
         if letter == '/' {
             number = number.saturating_sub(1);
@@ -112,8 +130,35 @@ fn write_letter(placement: &str, hint: &mut Hint) -> fmt::Result {
     Ok(())
 }
 
+// The names of the files.
+const FILES: &str = "abcdefgh";
+
+// The first pawn of a rank: whose it is, and its file.
+fn pawn_in(rank: &str) -> Option<(&'static str, char)> {
+    let mut file = 0u32;
+    for letter in rank.chars() {
+        match letter {
+            'P' => return Some(("white", FILES.chars().nth(file as usize)?)),
+            'p' => return Some(("black", FILES.chars().nth(file as usize)?)),
+            _ => file = file.saturating_add(width_of(letter)),
+        }
+    }
+    None
+}
+
+// Says which pawn stands on rank 8, or else on rank 1.
+fn write_pawn(placement: &str, hint: &mut Hint) -> fmt::Result {
+    if let Some((color, file)) = placement.split('/').next().and_then(pawn_in) {
+        return write!(hint, "{color} pawn on {file}8");
+    }
+    match placement.split('/').nth(7).and_then(pawn_in) {
+        Some((color, file)) => write!(hint, "{color} pawn on {file}1"),
+        None => Ok(()),
+    }
+}
+
 /// What is wrong with a text that is refused as a diagram or a position with this fault: the rank and its width, the
-/// letter, the numbers of fields, ranks and kings; nothing where the fault says all.
+/// letter, the numbers of fields, ranks and kings, the pawn, a length in its place; nothing where the fault says all.
 pub fn on_diagram(text: &str, fault: FenFault) -> Hint {
     let mut hint = Hint::new();
     let _ = match fault {
@@ -121,6 +166,7 @@ pub fn on_diagram(text: &str, fault: FenFault) -> Hint {
         FenFault::Rank => write_ranks(text, &mut hint),
         FenFault::Letter => write_letter(placement_of(text), &mut hint),
         FenFault::Kings => write_kings(first_field(text.as_bytes()), &mut hint),
+        FenFault::PawnRank => write_pawn(placement_of(text), &mut hint),
         _ => Ok(()),
     };
     hint

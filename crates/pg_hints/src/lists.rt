@@ -143,6 +143,14 @@ fn write_word(alloc: Global, position: &Position, word: &str, hint: &mut Hint) -
     }
 }
 
+/// Whether a text begins with a move of the initial array, as a list is read.
+pub fn is_like_game(text: &str) -> bool {
+    match word_at(text, 1) {
+        Some((position, word)) => read(&position, word).is_ok(),
+        None => false,
+    }
+}
+
 /// The word of a list of games that is refused, by its line and its ply in it, both from 1, and what it is where that
 /// is known, as a result or a comment; else up to three legal moves whose texts are nearest to it. Of a word of more
 /// than 24 bytes, or of much that wants escapes, the front is shown with two points behind it. Nothing where there is

@@ -1,5 +1,6 @@
 -- A line of a file of problems: a name, a diagram, a length, and behind them, if wanted, the author's game.
-use Rattle.std.specs.Prelude.{◌≡◌, ◌≢◌, ◌⊎◌, ◌<◌, ℕ, Bool, true, ◌||◌, ◌==◌, List, [], ◌∷◌, length, slice_get, Option, Some, None, Ok, Err}
+use Rattle.std.specs.Prelude.{◌≡◌, ◌≢◌, ◌⊎◌, ◌<◌, ◌≤◌, ℕ, Bool, true, ◌||◌, ◌==◌, Option, Some, None, Ok, Err}
+use Rattle.std.specs.Prelude.{List, [], ◌∷◌, length, slice_get, take, drop}
 use Rattle.std.specs.List.{list_all}
 use Rattle.std.specs.Char.{is_ascii_alphanumeric}
 use Rattle.std.specs.Str.{IsUtf8}
@@ -15,6 +16,16 @@ use Rattle.pg_judge.specs.declared.entry.BadMove.{BadMove}
 use Rattle.pg_judge.specs.declared.entry.Entry.{Entry}
 use Rattle.pg_judge.specs.declared.entry_fault.EntryFault.{EntryFault}
 use Rattle.pg_judge.specs.declared.entry_fault.EntryFault.TheVariants.{Name, Short, NotUtf8, Diagram, Length, Games}
+
+-- ---- a list
+-- the byte order mark of a text in UTF-8
+abbrev pub mark : List ℕ
+mark = 239 ∷ 187 ∷ 191 ∷ []
+
+-- the text begins with the mark, and this is what is behind it; or it does not, and this is the text
+abbrev pub IsUnmarked : List ℕ → List ℕ → Type 0
+IsUnmarked text rest = ((3 ≤ length text) × (take 3 text ≡ mark) × (rest ≡ drop 3 text))
+    ⊎ ((3 ≤ length text → take 3 text ≢ mark) × (rest ≡ text))
 
 -- ---- names
 -- a letter or a digit of ASCII, a hyphen, an underscore or a dot
@@ -76,7 +87,7 @@ IsGamesFault text (Games fault) = IsTextFault text fault
 IsGamesFault text fault = ⊥
 
 -- why a line that has words and is no comment spells no problem: its first word is no name; or it is, and the line has
--- fewer than three words; or it has three, and the second and the third are no problem, or what stands behind is refused
+-- fewer than three words; or it has three, and the second and the third are no problem, or what follows is refused
 abbrev pub IsEntryFault : List ℕ → EntryFault → Type 0
 IsEntryFault line Name = (name : List ℕ) × (rest : List ℕ) × Begins line name rest × (IsUtf8 name → ¬ IsName name)
 IsEntryFault line Short = (name : List ℕ) × (rest : List ℕ) × Begins line name rest × IsName name × (length (words line) < 3)

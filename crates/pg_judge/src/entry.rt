@@ -7,7 +7,7 @@ ghost use Rattle.pg_fen.specs.DiagramText.{diagram_of};
 ghost use Rattle.pg_fen.specs.Lengths.{length_of};
 ghost use Rattle.pg_san.specs.GameText.{words};
 ghost use Rattle.pg_judge.specs.Entries.{Begins, IsAuthor, IsEntry, IsEntryFault, IsGamesFault, IsHash, IsName};
-ghost use Rattle.pg_judge.specs.Entries.{IsProblemFault, IsSkipped, is_name_byte};
+ghost use Rattle.pg_judge.specs.Entries.{IsProblemFault, IsSkipped, IsUnmarked, is_name_byte, mark};
 
 use crate::entry_fault::EntryFault;
 use pg_checker::Problem;
@@ -195,6 +195,30 @@ fn read_named<'a>(alloc: Global, name: &'a [u8], rest: &[u8]) -> Result<Entry<'a
         }),
         Err(fault) => Err(fault),
     }
+}
+
+// What a text in UTF-8 may begin with.
+const MARK: [u8; 3] = [0xef, 0xbb, 0xbf];
+
+// Whether bytes are a byte order mark.
+fn are_mark(bytes: &[u8]) -> bool
+    ensures { IsTrue result ↔ (bytes.now ≡ mark) }
+{
+    bytes == MARK.as_slice()
+}
+
+/// A list of problems without the byte order mark at its front, if it begins with one.
+pub fn unmarked(text: &[u8]) -> &[u8]
+    ensures { IsUnmarked text.now result.now }
+{
+    if text.len() < 3 {
+        return text;
+    }
+    let (front, rest) = text.split_at(3);
+    if are_mark(front) {
+        return rest;
+    }
+    text
 }
 
 /// The problem that a line spells: words parted by spaces and tabs, of which the first is its name, the second a

@@ -22,7 +22,7 @@ mod searching;
 mod shorter;
 mod tolling;
 
-pub use entry::{BadMove, Entry, read_entry};
+pub use entry::{BadMove, Entry, read_entry, unmarked};
 pub use entry_fault::EntryFault;
 pub use given::{Given, given_to};
 pub use judging::{Pending, judge};

@@ -14,7 +14,8 @@ A number of nodes or bytes may be as 250k, 10M, 2G or 1e6.
 
 Statuses: 0 sound, or a command done; 1 cooked, no game, not sound, a list or
 certificate refused, or a search that gave up; 2 bad words or texts; 3 out of
-memory; 4 a file that cannot be opened, created, read or written.";
+memory, or of `judge` an author's game that fails; 4 a file that cannot be
+opened, created, read or written.";
 
 const SOLVE_EXAMPLE: &str =
     "It looks for another game where the author's is given, for two games by drawn
@@ -425,6 +426,13 @@ const ALL: Word = Word {
     help: "Goes on where two games are known, to find all",
 };
 
+// More lines where a command has no answer, for the program and behind each command; the helps of these leave it out.
+const HINTS: Word = Word {
+    name: "hints",
+    kind: Kind::Flag,
+    help: "Says what may help, as on a terminal",
+};
+
 // A command: its name, what it does, what stands below its help, and its words in their order.
 struct Entry {
     name: &'static str,
@@ -602,17 +610,18 @@ fn command_of<'a>(alloc: Global, entry: &Entry) -> Result<Command<'a>, AllocErro
     for word in entry.words {
         command = with_word(command, alloc, word)?;
     }
-    Ok(command)
+    command.arg(arg_of(alloc, &HINTS).hide(true))
 }
 
 // `pg` with no command yet.
-fn top<'a>(alloc: Global) -> Command<'a> {
-    Command::new(alloc, "pg")
+fn top<'a>(alloc: Global) -> Result<Command<'a>, AllocError> {
+    let pg = Command::new(alloc, "pg")
         .version("2.0.0")
         .about(ABOUT)
         .after_help(EXAMPLE)
         .subcommand_required(true)
-        .arg_required_else_help(true)
+        .arg_required_else_help(true);
+    with_word(pg, alloc, &HINTS)
 }
 
 // A command with one more command below it.
@@ -632,7 +641,7 @@ fn with_command<'a>(
 /// # Errors
 /// `AllocError` where a growth is refused.
 pub fn pg<'a>(alloc: Global) -> Result<Command<'a>, AllocError> {
-    let mut pg = top(alloc);
+    let mut pg = top(alloc)?;
     for entry in &COMMANDS {
         pg = with_command(pg, alloc, entry)?;
     }

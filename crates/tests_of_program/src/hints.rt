@@ -11,10 +11,11 @@ const DIAGRAMS: &str =
 rnbqkbnr/pppppppp/8/8/7/8/PPPPPPPP/RNBQKBNR => rank 4 is 7 squares wide, not 8
 rnbqkbnr/pppppppp/8/8/8/8/PPPPPPPPP/RNBQKBNR => rank 2 is 9 squares wide, not 8
 8/8 => 2 ranks; a board has 8
-8 => 1 rank; a board has 8
+k7 => 1 rank; a board has 8
+8 => the diagram stands before the length
 rnbqkbnr/pppppppp/8/8/8/8/PPPPPPPP/RNBQKBNX => 'X' in rank 1; men are KQRBNP and kqrbnp
-rnbqkbnr/pppppppp/8/3é4/8/8/PPPPPPPP/RNBQKBNR => 'é' in rank 5; men are KQRBNP and kqrbnp
-rnbqkbnr/pppppppp/8/8/8/8/PPPPPPPP/RNBQKBN\u{10ffff} => '\\u{10ffff}' in rank 1; men are KQRBNP and kqrbnp
+rnbqkbnr/pppppppp/8/3é4/8/8/PPPPPPPP/RNBQKBNR => 'é' (U+00E9) in rank 5; men are KQRBNP and kqrbnp
+rnbqkbnr/pppppppp/8/8/8/8/PPPPPPPP/RNBQKBN\u{10ffff} => '\\u{10ffff}' (U+10FFFF) in rank 1; men are KQRBNP and kqrbnp
 rnbqqbnr/pppppppp/8/8/8/8/PPPPPPPP/RNBQKBKR => white has 2, black 0
 8/8/8/8/8/8/8/8 w - - => fields: 4; a diagram has 1, a FEN 6
 4k3/8/8/8/8/8/8/4K3 x - - 0 1 => 
@@ -29,7 +30,12 @@ rnbqqbnr/pppppppp/8/8/8/8/PPPPPPPP/RNBQKBKR => white has 2, black 0
 8/8/8/8/8/8/8/8 => white has 0, black 0
 k6k/8/8/8/8/8/8/7K => white has 1, black 2
 8/8/8/8/8/8/8/k7 w KQkq - 0 1 => white has 0, black 1
-k6P/8/8/8/8/8/8/7K => ";
+k6P/8/8/8/8/8/8/7K => white pawn on h8
+k7/8/8/8/8/8/8/p1p4K => black pawn on a1
+rnbqkbnr/pppppppp/8/8/8/8/PPPPPPPP/RNBQKBNR, => ',' in rank 1 is no man and no number
+rnbqkbnr/pppp\u{41a}pppp/8/8/8/8/PPPPPPPP/RNBQKBNR => '\u{41a}' in rank 7 is no man and no number
+rnbq\u{41a}bnr/pppppppp/8/8/8/8/PPPPPPPP/RNBQKBNR => '\u{41a}' (U+041A) in rank 8; men are KQRBNP and kqrbnp
+2.0 => the diagram stands before the length";
 
 // What is said of a text that is refused as a diagram.
 fn check_diagram(rt: &impl Abort, row: &str) {
@@ -53,7 +59,7 @@ const POSITIONS: &str = "4k3/8/8/8/8/8/8/4K3 => fields: 1; a diagram has 1, a FE
 4k3/8/8/9/8/8/8/4K3 w - - 0 1 => rank 5 is 1 square wide, not 8
 4k3/8/8/8/8/8/8/4KX2 w - - 0 1 => 'X' in rank 1; men are KQRBNP and kqrbnp
 4k3/8/8/8/8/8/8/8 w - - 0 1 => white has 0, black 1
-4k2p/8/8/8/8/8/8/4K3 w - - 0 1 => 
+4k2p/8/8/8/8/8/8/4K3 w - - 0 1 => black pawn on h8
 4k3/8/8/8/8/8/8/4K3 x - - 0 1 => 
 4k3/8/8/8/8/8/8/4K3 w KK - 0 1 => 
 4k3/8/8/8/8/8/8/4K3 w - e4 0 1 => 

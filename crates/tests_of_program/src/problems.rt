@@ -1,0 +1,116 @@
+//! What is said of a line of a list of problems, and of words that stand in the place of others.
+
+use pg_fen::Diagram;
+use pg_hints::{
+    Remark, hyphen_wanted_in, is_like_game, on_few_words, on_name, on_placement, on_problem_length,
+};
+use std::process::Abort;
+
+// A remark as `column: sentence`; nothing where there is none.
+fn check<R: Abort + AllocGlobal>(rt: &R, found: Option<Remark>, wanted: &str) {
+    let Some(remark) = found else {
+        assert_eq!(rt; "", wanted);
+        return;
+    };
+    let (column, hint) = (remark.column, remark.hint.as_str());
+    let told = format!(in rt.alloc(); "{column}: {hint}").expect(rt, wanted);
+    assert_eq!(rt; told.as_str(), wanted);
+}
+
+// A line, and what is said of its name.
+const NAMES: &str = "Orb\u{e1}n x => 4: '\u{e1}' (U+00E1) in the name; letters are a to z and A to Z
+\u{feff}x => 1: '\\u{feff}' (U+FEFF) in the name; letters are a to z and A to Z
+\t a/b x => 4: '/' in the name; it has letters, digits, '-', '_' and '.'
+No.12: x => 6: no ':' stands in a name: write No.12
+x:: x => 2: no ':' stands in a name: write x
+queen;8/8/8/8/8/8/8/8;2.0 => 6: write spaces or tabs for ';' between a name, a diagram and a length
+.dot x => 1: a name begins with no dot
+8/8/8/8/8/8/8/8 2.0 => 1: a name stands before the diagram
+ => ";
+
+// What is said of a line with two words or fewer.
+const FEW: &str = "x => 
+x 2.0 => 3: a diagram and a length stand behind the name
+x 8/8/8/8/8/8/8/8 => 3: a length stands behind the diagram, as 2.0 or 2.5
+x 8/8/8/8/8/8/8/8;2.0 => 18: write spaces or tabs for ';' between a name, a diagram and a length";
+
+// What is said of a second word that is no diagram.
+const PLACEMENTS: &str = "My Queen 8/8/8/8/8/8/8/8 2.0 => 4: a name is one word: write My_Queen
+A  b c 8/8/8/8/8/8/8/8 => 4: a name is one word: write A_b_c
+x 2.0 8/8/8/8/8/8/8/8 => 3: the diagram stands before the length
+x 2 b 8/8/8/8/8/8/8/8 => 3: a name is one word: write x_2_b
+x 8/8 2.0 => 3: 2 ranks; a board has 8
+x 8/8/8/8/8/8/8/8 2.0 => 3: white has 0, black 0";
+
+// What is said of a third word that is no length.
+const LENGTHS: &str = "x 8/8/8/8/8/8/8/8 2,0 => 19: a length is in moves: write 2.0
+x d w KQkq - 0 1 2.0 => 5: the length stands behind the first field of the FEN: leave the others out
+x d b => 5: the length stands behind the first field of the FEN: leave the others out
+x d ? => 5: a length is in moves, as 2.0 or 2.5
+x d => ";
+
+#[test]
+fn remarks_on_lines(rt: HostRuntime) {
+    for row in NAMES.lines() {
+        let (line, wanted) = row.split_once(" => ").expect(&rt, row);
+        check(&rt, on_name(line), wanted);
+    }
+    for row in FEW.lines() {
+        let (line, wanted) = row.split_once(" => ").expect(&rt, row);
+        check(&rt, on_few_words(line), wanted);
+    }
+    for row in LENGTHS.lines() {
+        let (line, wanted) = row.split_once(" => ").expect(&rt, row);
+        check(&rt, on_problem_length(line), wanted);
+    }
+}
+
+// What is said of the second word of a line, which is refused as a diagram.
+fn check_placement<R: Abort + AllocGlobal>(rt: &R, line: &str, wanted: &str) {
+    let text = line.split_ascii_whitespace().nth(1).expect(rt, line);
+    let Err(fault) = Diagram::read(text) else {
+        panic!(rt; "{line}");
+    };
+    check(rt, on_placement(line, fault), wanted);
+}
+
+#[test]
+fn remarks_on_diagrams(rt: HostRuntime) {
+    for row in PLACEMENTS.lines() {
+        let (line, wanted) = row.split_once(" => ").expect(&rt, row);
+        check_placement(&rt, line, wanted);
+    }
+    let long = "x".repeat(rt.alloc(), 100).expect(&rt, "memory");
+    let line = format!(in rt.alloc(); "a {} 8/8/8/8/8/8/8/8 2.0", long.as_str()).expect(
+        &rt, "memory",
+    );
+    check_placement(&rt, line.as_str(), "3: a name is one word");
+}
+
+// A text, and whether it begins as a game.
+const GAMES: &str = "yes e4
+yes 1.e4 d5
+yes 1. e4
+no games
+no e5
+no -
+no ../e4";
+
+#[test]
+fn words_in_the_place_of_others(rt: HostRuntime) {
+    for row in GAMES.lines() {
+        let (is, text) = row.split_once(' ').expect(&rt, row);
+        assert_eq!(rt; is_like_game(text), is == "yes", "{text}");
+    }
+    let words = ["pg", "-h", "-", "--all", "-1", "-journeys", "-x1"];
+    let mut given = Vec::new(rt.alloc());
+    for text in words {
+        let text = String::from_str(rt.alloc(), text).expect(&rt, "memory");
+        given.push(text).expect(&rt, "memory");
+    }
+    assert_eq!(rt;
+        hyphen_wanted_in(given.as_slice()).unwrap_or(""),
+        "-journeys"
+    );
+    assert!(rt; hyphen_wanted_in(&given.as_slice()[..5]).is_none());
+}
