@@ -251,8 +251,8 @@ abbrev pub AreMet : Placement → ℕ → Reached → Type 0
 AreMet d n known = (list : List (List Move)) × AreSolutions d n list × (length_of_list list ≡ known.games)
 
 -- a search for games of n plies that end on d has no report: it gave up, its time was over, or its certificate would be
--- too long, with games that it met; or memory or a file was refused; or the games that it found are not listed, or the check of what it
--- wrote does not say yes, and a game that it calls unlisted, or of fewer plies, is there
+-- too long, with games that it met; or memory or a file was refused; or the games that it found are not listed, or the
+-- check of what it wrote does not say yes, and a game that it calls unlisted, or of fewer plies, is there
 abbrev pub IsSearchRefusal : Placement → ℕ → Refusal → Type 0
 IsSearchRefusal d n (GaveUp fault known) = IsGivenUp n fault × AreMet d n known
 IsSearchRefusal d n (Full known) = AreMet d n known

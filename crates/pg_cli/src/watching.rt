@@ -20,7 +20,8 @@ pub(crate) struct Watch<'a, R> {
 }
 
 impl<'a, R: Clock + Eprint> Watch<'a, R> {
-    // Of a problem with its number, from 1, and so many plies, which is judged from now on, within these milliseconds if any are told.
+    // Of a problem with its number, from 1, and so many plies, which is judged from now on, within these milliseconds
+    // if any are told.
     pub(crate) fn new(
         rt: &'a R,
         terminal: &'a Terminal,

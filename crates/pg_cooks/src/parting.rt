@@ -1,8 +1,8 @@
 //! Where two games part, and whether they are the same moves in another order.
 ghost use Rattle.std.specs.Prelude.{◌≡◌, ◌≤◌};
 ghost use Rattle.pg_certificate.specs.Pushing.{Adds, MayPush, Pushes};
-ghost use Rattle.pg_cooks.specs.Parting.{agrees, apart_text, are_reordered, between_text, colour_text, is_same, move_text};
-ghost use Rattle.pg_cooks.specs.Parting.{order_text, pair_text, parting, played, plays};
+ghost use Rattle.pg_cooks.specs.Parting.{agrees, apart_text, are_reordered, between_text, colour_text, is_same};
+ghost use Rattle.pg_cooks.specs.Parting.{move_text, order_text, pair_text, parting, played, plays};
 
 use pg_certificate::{Refused, Sink};
 use pg_fen::text::digits;
@@ -123,10 +123,10 @@ fn write_between<W: Sink>(
     out.push(behind.as_bytes())
 }
 
-/// Appends where a game parts from the first game of a list, and whether it has the same moves in another order, between
-/// two texts: ` at move `, the number of the move, and ` of White` or ` of Black`; then, where each colour plays the same
-/// moves in both, each as often, `, with the same moves in another order`. Nothing where the list has no game. Takes no
-/// memory.
+/// Appends where a game parts from the first game of a list, and whether it has the same moves in another order,
+/// between two texts: ` at move `, the number of the move, and ` of White` or ` of Black`; then, where each colour plays
+/// the same moves in both, each as often, `, with the same moves in another order`. Nothing where the list has no game.
+/// Takes no memory.
 ///
 /// # Errors
 /// `Refused` where the sink has failed.

@@ -156,8 +156,8 @@ fn write_other<W: Sink>(games: &Games, game: &[Move], out: &mut W) -> Result<(),
 
 /// Appends the lines of a game from the initial array that is another solution beside games that are known: `another
 /// game`; its movetext; where it parts from the first of them, as `it parts from the first at move 4 of White`, and `,
-/// with the same moves in another order` behind it where each colour plays the same moves in both; and `not sound`. Each
-/// is ended by a line feed. Nothing is tested here.
+/// with the same moves in another order` behind it where each colour plays the same moves in both; and `not sound`.
+/// Each is ended by a line feed. Nothing is tested here.
 ///
 /// # Errors
 /// `Refused` where the sink has failed.

@@ -26,8 +26,8 @@ abbrev pub IsListed : Placement → ℕ → List (List Move) → List ℕ → Li
 IsListed d n games words text = IsBeside d n games (λ last. last ≡ last_text games words) text
 
 -- The report of what is found of the diagram d and n plies, beside the author's games. Where games settle the problem or
--- two are known it is theirs, with the verdict or that the problem is not sound. Else the author's games stand there, and
--- another game, a shorter one, or what is known.
+-- two are known it is theirs, with the verdict or that the problem is not sound. Else the author's games stand there,
+-- and another game, a shorter one, or what is known.
 abbrev pub IsFindingText : Placement → ℕ → List (List Move) → Finding → List ℕ → Type 0
 IsFindingText d n author (Settled verdict games) text = IsListed d n games (verdict_text verdict) text
 IsFindingText d n author (NotSound (Several games)) text = IsListed d n games (codes "not sound") text

@@ -92,8 +92,8 @@ impl<'a, R: Clock + Eprint> SearchLine<'a, R> {
 }
 
 /// The line of a search, after so many milliseconds: the time, the share of the limit that is nearer, the plies of the
-/// tree at work and the stated ones as lengths, the nodes of all trees, how many the tree at work may come to, where that
-/// is told, and the games that were met.
+/// tree at work and the stated ones as lengths, the nodes of all trees, how many the tree at work may come to, where
+/// that is told, and the games that were met.
 pub fn search_line(
     passed: u64,
     allowed: Allowed,

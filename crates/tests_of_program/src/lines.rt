@@ -143,7 +143,8 @@ const SEARCHES: &str = "0 1000000 - 0 0 0 - 0: 0:00 0% of nodes, tree 0.0 of 0.0
 // The same of a led search, with its foreign moves in place of what the tree may come to.
 const LED: &str = "0 10 - 0 0 0 0: 0:00 0% of nodes, tree 0.0 of 0.0, +0 foreign, 0 nodes
 45000 10000000 90000 36 37 1234567 3: 0:45 50% of time, tree 18.0 of 18.5, +3 foreign, 1234k nodes
-18446744073709551615 99999999 - 128 128 99999999 255: 9999h25 100% of nodes, tree 64.0 of 64.0, +255 foreign, 99999k nodes";
+18446744073709551615 99999999 - 128 128 99999999 255: 9999h25 100% of nodes, tree 64.0 of 64.0, \
++255 foreign, 99999k nodes";
 
 // What is shown is what stands behind `: `, and never wider than 79 columns.
 fn check_shown(rt: &impl Abort, shown: &str, row: &str) {
