@@ -335,6 +335,7 @@ pg: 4 entries: 2 sound, 2 not sound; 3 authors' games fail; 11 lines are bad"
 expect 2 $'pg: bad rank\npg: 2 ranks; a board has 8' '"$pg" show 8/8 --hints' ''
 expect 2 $'pg: bad rank\npg: 2 ranks; a board has 8' '"$pg" --hints show 8/8' ''
 expect 2 $'pg: a pawn stands on rank 1 or 8\npg: white pawn on d1' '"$pg" show ${array/Q/P} --hints' ''
+expect 1 "pg: is the board upside down? turned it is $array" '"$pg" search RNBQKBNR/PPPPPPPP/8/8/8/8/pppppppp/rnbqkbnr 1.0 ../new.pgc --hints | tail -n 1; exit ${PIPESTATUS[0]}' 'no game'
 expect 2 $'pg: bad rank\npg: the diagram stands before the length' '"$pg" games 2.0 $open games --hints' ''
 expect 2 $'pg: games are not UTF-8\npg: it looks like a certificate; CERT stands before GAMES' '"$pg" check $queen 2.0 games good.pgc --hints' ''
 expect 4 $'pg: cannot open e4 e5\npg: No such file or directory (os error 2)\npg: it looks like a game; a file with one game a line is wanted' \

@@ -2,14 +2,14 @@
 //! a text or a file, and what to try. They take no part in any answer.
 
 use crate::lists::{tell_byte, tell_list, tell_misfit};
-use crate::refusals::{Named, Reached, Refusal};
+use crate::refusals::{GAVE_UP, Named, Reached, Refusal};
 use crate::spelling::{say_tolls, text_of};
 use clap::ArgMatches;
 use pg_fen::LengthFault;
 use pg_files::first_bytes;
 use pg_hints::{
     Hint, hyphen_wanted_in, is_fen_in_words, is_like_game, meant_by, on_diagram, on_known,
-    on_length, on_limit, packing_of,
+    on_length, on_limit, on_turned, packing_of,
 };
 use pg_journeys::Journeys;
 use pg_report::{
@@ -170,6 +170,14 @@ pub(crate) fn advise<R: Runtime + AllocGlobal>(rt: &R, words: &ArgMatches<'_>, r
             tell_packing(rt, text_of(words, "OLD"))
         }
         _ => {}
+    }
+}
+
+// Says what the diagram of these words is when it is turned, where a command that ends with this status may have met one
+// that is upside down.
+pub(crate) fn advise_status<R: Eprint>(rt: &R, words: &ArgMatches<'_>, status: u8) {
+    if status == GAVE_UP {
+        tell(rt, &on_turned(text_of(words, "DIAGRAM")));
     }
 }
 

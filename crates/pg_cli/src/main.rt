@@ -41,7 +41,7 @@ mod watching;
 use crate::asked::{Asked, asked_by};
 use crate::bounds::{journeys_to, tolls_to, travel_to};
 use crate::commands::{Command, OtherCommand, ProblemCommand};
-use crate::hints::{advise, advise_words};
+use crate::hints::{advise, advise_status, advise_words};
 use crate::limits::{are_minutes, is_amount};
 use crate::refusals::{BAD_INPUT, DONE, NO_FILE, Refusal, refuse};
 use crate::screen::{Screen, ask_for_hints, is_dumb};
@@ -326,7 +326,12 @@ fn run<R: Runtime + AllocGlobal>(rt: &R, words: &ArgMatches<'_>, screen: Screen)
         return BAD_INPUT;
     };
     match perform(rt, command, inner, screen) {
-        Ok(status) => status,
+        Ok(status) => {
+            if screen.hints {
+                advise_status(rt, inner, status);
+            }
+            status
+        }
         Err(refusal) => {
             let status = refuse(rt, &refusal, file_of(inner, &refusal));
             if screen.hints {

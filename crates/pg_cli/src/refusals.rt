@@ -21,8 +21,8 @@ use thiserror::Error;
 // A command is done, or its words ask for help.
 pub(crate) const DONE: u8 = 0;
 
-// A search gave up.
-const GAVE_UP: u8 = 1;
+// A search gave up, or what is found is not that a problem is sound.
+pub(crate) const GAVE_UP: u8 = 1;
 
 // Words or texts are refused.
 pub(crate) const BAD_INPUT: u8 = 2;

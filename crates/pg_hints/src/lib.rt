@@ -14,6 +14,7 @@ mod places;
 mod problems;
 mod searches;
 mod strangers;
+mod turned;
 mod words;
 
 use arrayvec::ArrayString;
@@ -26,6 +27,7 @@ pub use misfits::{Misfit, misfit_of};
 pub use places::{Place, bad_byte, line_like, line_of};
 pub use problems::{Remark, on_few_words, on_name, on_placement, on_problem_length};
 pub use searches::{on_known, on_length, on_limit};
+pub use turned::on_turned;
 pub use words::{hyphen_wanted_in, is_fen_in_words};
 
 /// A line, at most; empty where there is nothing to say.

@@ -58,17 +58,18 @@ fn may_name(letter: char) -> bool {
     letter.is_ascii_alphanumeric() || matches!(letter, '-' | '_' | '.')
 }
 
+// What is said of the first semicolon in a word, if there is one.
+fn on_semicolon(word: Word<'_>) -> Option<Remark> {
+    let place = word.text.chars().position(|letter| letter == ';')?;
+    let sentence = "write spaces or tabs for ';' between a name, a diagram and a length";
+    Some(Remark::new(word.column.saturating_add(place), sentence))
+}
+
 // What is said of the first character of a word that stands in no name, if there is one.
 fn on_letter(word: Word<'_>) -> Option<Remark> {
     let place = word.text.chars().position(|letter| !may_name(letter))?;
     let letter = word.text.chars().nth(place)?;
     let column = word.column.saturating_add(place);
-    if letter == ';' {
-        return Some(Remark::new(
-            column,
-            "write spaces or tabs for ';' between a name, a diagram and a length",
-        ));
-    }
     let mut hint = Hint::new();
     let meant = word.text.trim_end_matches(letter);
     let _ = if !meant.is_empty() && meant.chars().all(may_name) {
@@ -92,7 +93,10 @@ fn on_letter(word: Word<'_>) -> Option<Remark> {
 /// a space, a diagram in the place of a name.
 pub fn on_name(line: &str) -> Option<Remark> {
     let word = word_at(line, 0)?;
-    if is_like_placement(word.text) && !word.text.contains([';', ',']) {
+    if let Some(remark) = on_semicolon(word) {
+        return Some(remark);
+    }
+    if is_like_placement(word.text) {
         return Some(Remark::new(word.column, "a name stands before the diagram"));
     }
     match on_letter(word) {
@@ -104,8 +108,8 @@ pub fn on_name(line: &str) -> Option<Remark> {
 /// What is wanted behind the first two words of a line, where it has no more.
 pub fn on_few_words(line: &str) -> Option<Remark> {
     let word = word_at(line, 1)?;
-    if word.text.contains(';') {
-        return on_letter(word);
+    if let Some(remark) = on_semicolon(word) {
+        return Some(remark);
     }
     let sentence = if is_like_placement(word.text) {
         "a length stands behind the diagram, as 2.0 or 2.5"

@@ -3,6 +3,7 @@
 use pg_fen::Diagram;
 use pg_hints::{
     Remark, hyphen_wanted_in, is_like_game, on_few_words, on_name, on_placement, on_problem_length,
+    on_turned,
 };
 use std::process::Abort;
 
@@ -85,6 +86,22 @@ fn remarks_on_diagrams(rt: HostRuntime) {
         &rt, "memory",
     );
     check_placement(&rt, line.as_str(), "3: a name is one word");
+}
+
+// A diagram, and what it is when it is turned, where that may be meant.
+const TURNED: &str = "RNBQKBNR/PPPP1PPP/8/4P3/8/8/pppppppp/rnbqkbnr => \
+is the board upside down? turned it is rnbqkbnr/pppppppp/8/8/4P3/8/PPPP1PPP/RNBQKBNR
+rnbqkbnr/pppppppp/8/8/8/8/PPPPPPPP/RNBQKBNR w => 
+K7/8/8/8/8/8/8/k7 w - - => is the board upside down? turned it is k7/8/8/8/8/8/8/K7
+Kk6/8/8/8/8/8/8/8 => 
+ => ";
+
+#[test]
+fn boards_upside_down(rt: HostRuntime) {
+    for row in TURNED.lines() {
+        let (text, wanted) = row.split_once(" => ").expect(&rt, row);
+        assert_eq!(rt; on_turned(text).as_str(), wanted);
+    }
 }
 
 // A text, and whether it begins as a game.
