@@ -141,14 +141,10 @@ struct Author {
 }
 
 // The author's games that a text spells, or the first word of it that is no move.
-fn read_author(alloc: Global, text: &[u8]) -> Result<Author, EntryFault>
+fn read_spelled(alloc: Global, text: &str) -> Result<Author, EntryFault>
     ensures ok { IfOk result (λ a. IsAuthor text.now a.games a.bad) }
     ensures err { IfErr result (λ e. IsGamesFault text.now e) }
 {
-    let text = match str::from_utf8(text) {
-        Ok(text) => text,
-        Err(_) => return Err(EntryFault::NotUtf8),
-    };
     match read_games(alloc, text) {
         Ok(games) => Ok(Author { games, bad: None }),
         Err(
@@ -164,6 +160,17 @@ fn read_author(alloc: Global, text: &[u8]) -> Result<Author, EntryFault>
         Err(GamesFault::TooMany { line }) => Err(EntryFault::Games(GamesFault::TooMany { line })),
         Err(GamesFault::Repeated { line }) => Err(EntryFault::Games(GamesFault::Repeated { line })),
         Err(GamesFault::Memory) => Err(EntryFault::Games(GamesFault::Memory)),
+    }
+}
+
+// So of bytes.
+fn read_author(alloc: Global, text: &[u8]) -> Result<Author, EntryFault>
+    ensures ok { IfOk result (λ a. IsAuthor text.now a.games a.bad) }
+    ensures err { IfErr result (λ e. IsGamesFault text.now e) }
+{
+    match str::from_utf8(text) {
+        Ok(text) => read_spelled(alloc, text),
+        Err(_) => Err(EntryFault::NotUtf8),
     }
 }
 

@@ -1,5 +1,5 @@
 use Rattle.pg_judge.proofs.EntryLemmas.{refused, stops}
-use Rattle.pg_judge.proofs.entry.read_author.Goals as goal
+use Rattle.pg_judge.proofs.entry.read_spelled.Goals as goal
 
 pub returns-in-Err-At-clause-ok : goal.returns-in-Err-At-clause-ok
 returns-in-Err-At-clause-ok c =
