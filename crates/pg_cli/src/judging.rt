@@ -587,9 +587,10 @@ fn judge_line<'t, R: Runtime + AllocGlobal, W: Sink>(
         Ok(status) => Ok(status),
         Err(Spoiled::Run(refusal)) => Err(refusal),
         Err(Spoiled::Place(fault)) => {
+            let (folder, name) = (folder_of(orders.place), entry.name);
             let place = AtPlace {
-                folder: folder_of(orders.place),
-                name: entry.name,
+                folder,
+                name,
                 fault,
             };
             Ok(say_bad(rt, seen.lines, place))
@@ -602,6 +603,17 @@ fn judge_line<'t, R: Runtime + AllocGlobal, W: Sink>(
 struct Count {
     turn: Turn,
     tally: Tally,
+}
+
+impl Count {
+    // Before the first line of a text; `hints` says whether second lines are told.
+    fn new<R: Clock>(rt: &R, text: &[u8], hints: bool) -> Count {
+        let count = count_problems(text);
+        Count {
+            turn: Turn { number: 0, count },
+            tally: Tally::new(rt, hints),
+        }
+    }
 }
 
 // What came before a line: how many lines, and the names of the problems.
@@ -620,7 +632,7 @@ fn judge_all<R: Runtime + AllocGlobal, W: Sink>(
     rt: &R,
     text: &[u8],
     orders: &Orders<'_>,
-    tally: Tally,
+    count: Count,
     terminal: &Terminal,
     out: &mut Gathered<W>,
 ) -> Result<u8, Refusal>
@@ -635,13 +647,7 @@ fn judge_all<R: Runtime + AllocGlobal, W: Sink>(
     let mut seen = Seen {
         lines: 0,
         names: BTreeSet::new(rt.alloc()),
-        count: Count {
-            turn: Turn {
-                number: 0,
-                count: count_problems(text),
-            },
-            tally,
-        },
+        count,
     };
     let mut worst = 0u8;
     let mut rest = Some(text);
@@ -715,7 +721,7 @@ pub(crate) fn judge<R: Runtime + AllocGlobal>(
     };
     let terminal = Terminal::new(screen.lines);
     let mut out = Gathered::new(Cleared::new(ToWrite::new(io::writer(rt)), rt, &terminal));
-    let tally = Tally::new(rt, screen.hints);
     let text = unmarked(text.as_slice());
-    judge_all(rt, text, &orders, tally, &terminal, &mut out)
+    let count = Count::new(rt, text, screen.hints);
+    judge_all(rt, text, &orders, count, &terminal, &mut out)
 }
