@@ -271,9 +271,9 @@ done <<END
 2|array 8/8 0\n|line 1: bad rank|
 2|array $array 0,5\n|line 1: bad length|
 2|array $array 0 \xff\n|line 1: not UTF-8|
-3|array $array 0 1. e4 e4\n|line 1: the author's game: ply 2: no such legal move|$(fails_row 'ply 2')
-3|array $array 0 1. e4\n|line 1: the author's game: it does not have the stated length|$(fails_row '1 ply')
-3|# 1\narray $array 0 e4 e5 - - *\n.|line 2: the author's game: ply 3: not a move\npg: line 3: bad name|$(fails_row 'ply 3')
+5|array $array 0 1. e4 e4\n|line 1: the author's game: ply 2: no such legal move|$(fails_row 'ply 2')
+5|array $array 0 1. e4\n|line 1: the author's game: it does not have the stated length|$(fails_row '1 ply')
+5|# 1\narray $array 0 e4 e5 - - *\n.|line 2: the author's game: ply 3: not a move\npg: line 3: bad name|$(fails_row 'ply 3')
 2|array $array 0 -\narray $array 0 -\n|line 2: this name stands above|$array_row
 END
 # A byte order mark at the front is passed over. With --hints second lines say where a line is wrong and what is meant, as
@@ -297,7 +297,7 @@ c $array 1.0 1. e4
 d $array 0.5 1. e4
 $(printf 'x \xff 2')
 END
-expect 3 '' '"$pg" judge ../list --hints 2>&1 | sed "s/; [0-9]*[.][0-9] s\$//"; exit "${PIPESTATUS[0]}"' "pg: line 1: bad name
+expect 5 '' '"$pg" judge ../list --hints 2>&1 | sed "s/; [0-9]*[.][0-9] s\$//"; exit "${PIPESTATUS[0]}"' "pg: line 1: bad name
 pg: line 1, column 4: 'á' (U+00E1) in the name; letters are a to z and A to Z
 pg: line 2: bad name
 pg: line 2, column 6: no ':' stands in a name: write No.12

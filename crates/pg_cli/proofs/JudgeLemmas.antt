@@ -85,9 +85,9 @@ ruled_adds line status entry a b is h = (h.0, inr (inr (entry, is, h.1)), h.2)
 zero_found : (given : Given) (finding : Finding) → IsRowStatus given finding 0 → IsFindingStatus finding 0
 zero_found NoGame finding h = h
 zero_found Solves finding h = h
-zero_found (StopsAt ply) finding h = absurd (let z : 0 ≡ 3 = h in cc)
-zero_found (OfPlies plies) finding h = absurd (let z : 0 ≡ 3 = h in cc)
-zero_found EndsElsewhere finding h = absurd (let z : 0 ≡ 3 = h in cc)
+zero_found (StopsAt ply) finding h = absurd (let z : 0 ≡ 5 = h in cc)
+zero_found (OfPlies plies) finding h = absurd (let z : 0 ≡ 5 = h in cc)
+zero_found EndsElsewhere finding h = absurd (let z : 0 ≡ 5 = h in cc)
 
 said_sound : (finding : Finding) → IsFindingStatus finding 0 → IsSaidSound finding
 said_sound finding (inl said) = said.1

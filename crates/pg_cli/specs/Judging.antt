@@ -31,11 +31,11 @@ IsStanding entry (Shown old) = Unit {0}
 abbrev pub IsFindingStatus : Finding → ℕ → Type 0
 IsFindingStatus finding status = ((status ≡ 0) × IsSaidSound finding) ⊎ ((status ≡ 1) × ¬ IsSaidSound finding)
 
--- the status of a row: 3 where the author's game fails, else that of what is found
+-- the status of a row: 5 where the author's game fails, else that of what is found
 abbrev pub IsRowStatus : Given → Finding → ℕ → Type 0
 IsRowStatus NoGame finding status = IsFindingStatus finding status
 IsRowStatus Solves finding status = IsFindingStatus finding status
-IsRowStatus given finding status = status ≡ 3
+IsRowStatus given finding status = status ≡ 5
 
 -- the text is the row of an entry, of what is found of its problem, which is true, and this is the status of that and of
 -- what the author's game is

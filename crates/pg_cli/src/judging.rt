@@ -490,7 +490,7 @@ pub(crate) fn status_of(ruling: &Ruling) -> u8
     OTHER
 }
 
-// The status of a row: 3 where the author's game fails, else that of the ruling.
+// The status of a row: 5 where the author's game fails, else that of the ruling.
 fn row_status(given: Given, ruling: &Ruling) -> u8
     ensures { IsRowStatus given ruling.now.finding result }
 {
@@ -510,7 +510,7 @@ pub(crate) struct Turn {
     pub(crate) count: usize,
 }
 
-// Judges a problem, writes its row and hands it on: 3 where the author's game fails, else 0 where the problem is sound,
+// Judges a problem, writes its row and hands it on: 5 where the author's game fails, else 0 where the problem is sound,
 // else 1. A refusal leaves no row in the sink.
 #[inline(never)]
 fn judge_and_tell<R: Runtime + AllocGlobal, W: Sink>(

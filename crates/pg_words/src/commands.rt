@@ -14,8 +14,8 @@ A number of nodes or bytes may be as 250k, 10M, 2G or 1e6.
 
 Statuses: 0 sound, or a command done; 1 cooked, no game, not sound, a list or
 certificate refused, or a search that gave up; 2 bad words or texts; 3 out of
-memory, or of `judge` an author's game that fails; 4 a file that cannot be
-opened, created, read or written.";
+memory; 4 a file that cannot be opened, created, read or written; 5 an author's
+game of `judge` that fails.";
 
 const SOLVE_EXAMPLE: &str =
     "It looks for another game where the author's is given, for two games by drawn
