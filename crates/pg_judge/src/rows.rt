@@ -125,12 +125,12 @@ fn write_number<W: Sink>(before: &str, n: usize, behind: &str, out: &mut W) -> R
     out.push(behind.as_bytes())
 }
 
-// Appends the ply at which a game stops.
-fn write_stop<W: Sink>(ply: usize, out: &mut W) -> Result<(), Refused>
-    ensures { Pushes W.held W.has_failed (Adds (codes "fails, ply " ++ decimal ply)) out.old out.new result }
+// Appends a text and a number.
+fn write_last<W: Sink>(before: &str, n: usize, out: &mut W) -> Result<(), Refused>
+    ensures { Pushes W.held W.has_failed (Adds (before.now ++ decimal n)) out.old out.new result }
 {
-    out.push(b"fails, ply ")?;
-    out.push(digits(ply).as_bytes())
+    out.push(before.as_bytes())?;
+    out.push(digits(n).as_bytes())
 }
 
 // Appends what the author's game is.
@@ -140,7 +140,7 @@ fn write_given<W: Sink>(given: Given, out: &mut W) -> Result<(), Refused>
     match given {
         Given::NoGame => out.push(b"-"),
         Given::Solves => out.push(b"solves"),
-        Given::StopsAt(ply) => write_stop(ply, out),
+        Given::StopsAt(ply) => write_last("fails, ply ", ply, out),
         Given::OfPlies(plies) => write_number("fails, ", plies, plies_words(plies), out),
         Given::EndsElsewhere => out.push(b"fails, ends elsewhere"),
     }
