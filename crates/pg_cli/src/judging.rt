@@ -42,6 +42,7 @@ use std::collections::BTreeSet;
 use std::io;
 use std::io::{Cursor, Eprint, Read};
 use std::rt::Runtime;
+use std::time::Clock;
 
 // The most nodes of one search for the games of a problem, where the words do not say it.
 pub(crate) const NODES: u64 = 100_000_000;
