@@ -659,7 +659,8 @@ fn judge_all<R: Runtime + AllocGlobal, W: Sink>(
             Ok(status) => status,
             Err(refusal) => return Err(refusal),
         };
-        seen.count.tally.end_line(rt, seen.lines, line, status);
+        let number = seen.lines;
+        seen.count.tally.end_line(rt, number, line, status);
         worst = worst.max(status);
     }
     seen.count.tally.end(rt);

@@ -235,9 +235,10 @@ pub(crate) fn cooks<R: Runtime + AllocGlobal>(
             .get_one::<u64>("foreign")
             .and_then(|d| u8::try_from(d).ok()),
     };
-    let terminal = Terminal::new(screen.lines);
     let plies = listed.problem.length.plies();
-    let line = LedLine::new(rt, &terminal, plies, reach.allowed());
+    let allowed = reach.allowed();
+    let terminal = Terminal::new(screen.lines);
+    let line = LedLine::new(rt, &terminal, plies, allowed);
     let mut timed = Timed::new(line, Deadline::new(rt, reach.milliseconds));
     let mut out = Gathered::new(Cleared::new(ToWrite::new(io::writer(rt)), rt, &terminal));
     let answer = cooks_from(
