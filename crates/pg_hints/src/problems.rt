@@ -2,7 +2,7 @@
 
 use crate::Hint;
 use crate::diagrams::on_diagram;
-use crate::meant::meant_by;
+use crate::meant::{is_open, meant_by};
 use pg_fen::{FenFault, Length};
 use std::fmt;
 use std::fmt::Write;
@@ -183,6 +183,10 @@ pub fn on_problem_length(line: &str) -> Option<Remark> {
             hint,
             "a length is in moves: write {}",
             length.write().as_str()
+        ),
+        None if is_open(word.text) => write!(
+            hint,
+            "one length is wanted; `pg solve DIAGRAM` finds the least that has a game"
         ),
         None => write!(hint, "a length is in moves, as 2.0 or 2.5"),
     };
