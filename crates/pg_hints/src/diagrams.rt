@@ -93,7 +93,11 @@ fn write_width(placement: &str, hint: &mut Hint) -> fmt::Result {
                 return write!(hint, "{letter:?} in rank {number} is no man and no number");
             }
             let squares = if width == 1 { "square" } else { "squares" };
-            let more = if width == 0 { ": empty it is 8" } else { "" };
+            let more = if width == 0 {
+                "; an empty rank is 8"
+            } else {
+                ""
+            };
             return write!(hint, "rank {number} is {width} {squares} wide, not 8{more}");
         }
         number = number.saturating_sub(1);
@@ -117,7 +121,7 @@ fn write_ranks(text: &str, hint: &mut Hint) -> fmt::Result {
 // Says which letter of which rank is no man's, or what is meant in another language's letters.
 fn write_letter(placement: &str, hint: &mut Hint) -> fmt::Result {
     if let Some(meant) = placement_meant_by(placement) {
-        return write!(hint, "with the letters of English it is {}", meant.as_str());
+        return write!(hint, "in English letters it is {}", meant.as_str());
     }
     let mut number = 8u8;
     for letter in placement.chars() {
