@@ -92,6 +92,15 @@ pub(crate) fn tell_list<R: Runtime + AllocGlobal>(
     }
 }
 
+// Says that the moves which the words spell are the name of a file.
+pub(crate) fn tell_name<R: Runtime + AllocGlobal>(rt: &R, words: &ArgMatches<'_>) {
+    if let Some(name) = words.get_str("game") {
+        if open_plain(rt, name).is_ok() {
+            let _ = eprintln!(rt; "pg: a file has this name: say --games");
+        }
+    }
+}
+
 // Says what stands on a square at the end of a game, and what on the diagram.
 fn tell_square<R: Eprint>(rt: &R, square: Square, end: &Board, wanted: &Board) {
     let file = char::from(b'a' - 1 + square.file());

@@ -1,6 +1,7 @@
 //! What is wrong with a text that is no diagram.
 
 use crate::Hint;
+use crate::foreign::placement_meant_by;
 use pg_fen::{FenFault, Length, man_of, next_field};
 use std::fmt;
 use std::fmt::Write;
@@ -33,7 +34,8 @@ fn times(byte: u8, text: &[u8]) -> usize {
 // Says how many fields a text has.
 fn write_fields(text: &[u8], hint: &mut Hint) -> fmt::Result {
     let count = count_fields(text);
-    write!(hint, "fields: {count}; a diagram has 1, a FEN 6")
+    let more = if count == 4 { ": add 0 1" } else { "" };
+    write!(hint, "fields: {count}; a diagram has 1, a FEN 6{more}")
 }
 
 // Says how many kings each side has.
@@ -91,7 +93,12 @@ fn write_width(placement: &str, hint: &mut Hint) -> fmt::Result {
                 return write!(hint, "{letter:?} in rank {number} is no man and no number");
             }
             let squares = if width == 1 { "square" } else { "squares" };
-            return write!(hint, "rank {number} is {width} {squares} wide, not 8");
+            let more = if width == 0 {
+                "; an empty rank is 8"
+            } else {
+                ""
+            };
+            return write!(hint, "rank {number} is {width} {squares} wide, not 8{more}");
         }
         number = number.saturating_sub(1);
     }
@@ -111,8 +118,11 @@ fn write_ranks(text: &str, hint: &mut Hint) -> fmt::Result {
     }
 }
 
-// Says which letter of which rank is no man's.
+// Says which letter of which rank is no man's, or what is meant in another language's letters.
 fn write_letter(placement: &str, hint: &mut Hint) -> fmt::Result {
+    if let Some(meant) = placement_meant_by(placement) {
+        return write!(hint, "in English letters it is {}", meant.as_str());
+    }
     let mut number = 8u8;
     for letter in placement.chars() {
         if !may_stand(letter) {

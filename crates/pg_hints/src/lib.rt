@@ -6,6 +6,7 @@
 
 mod diagrams;
 mod files;
+mod foreign;
 mod lists;
 mod meant;
 mod men;
@@ -21,14 +22,14 @@ use arrayvec::ArrayString;
 pub use diagrams::on_diagram;
 pub use files::packing_of;
 pub use lists::{is_like_game, on_move};
-pub use meant::meant_by;
+pub use meant::{is_open, meant_by};
 pub use men::name_of;
 pub use misfits::{Misfit, misfit_of};
 pub use places::{Place, bad_byte, line_like, line_of};
 pub use problems::{Remark, on_few_words, on_name, on_placement, on_problem_length};
 pub use searches::{on_known, on_length, on_limit};
 pub use turned::on_turned;
-pub use words::{hyphen_wanted_in, is_fen_in_words};
+pub use words::{hyphen_wanted_in, is_fen_in_words, is_game_in_words, is_unit_apart_in};
 
 /// A line, at most; empty where there is nothing to say.
 pub type Hint = ArrayString<120>;

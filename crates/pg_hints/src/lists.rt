@@ -1,6 +1,7 @@
 //! The word of a list that is no move, and what it is, or the legal moves that are most like it.
 
 use crate::Hint;
+use crate::foreign::move_meant_by;
 use crate::places::line_at;
 use crate::strangers::sentence_on;
 use arrayvec::ArrayString;
@@ -133,6 +134,14 @@ fn write_moves(quoted: &str, nearest: &Nearest, hint: &mut Hint) -> fmt::Result 
 // memory is not refused.
 fn write_word(alloc: Global, position: &Position, word: &str, hint: &mut Hint) -> fmt::Result {
     let quoted = quoted(word);
+    if let Some(san) = move_meant_by(position, word) {
+        return write!(
+            hint,
+            "the word is {}; write {}",
+            quoted.as_str(),
+            san.as_str()
+        );
+    }
     if let Some(sentence) = sentence_on(word) {
         return write!(hint, "the word is {}; {sentence}", quoted.as_str());
     }
@@ -141,6 +150,44 @@ fn write_word(alloc: Global, position: &Position, word: &str, hint: &mut Hint) -
         Ok(nearest) => write_moves(quoted.as_str(), &nearest, hint),
         Err(AllocError) => Ok(()),
     }
+}
+
+// The position behind the moves of a line, a game by itself; none where a word of it is no move.
+fn end_of(line: &str) -> Option<Position> {
+    let mut position = Position::array();
+    for word in line.split([' ', '\t']) {
+        let text = without_move_number(word);
+        if !text.is_empty() {
+            let m = read(&position, text).ok()?;
+            position = position.play(m).ok()?;
+        }
+    }
+    Some(position)
+}
+
+// Whether the game of a line goes on in the next one, which is refused at this ply: its first move is legal behind that
+// game, and is the one that is refused, or has a number above 1.
+fn goes_on(before: &str, line: &str, ply: usize) -> bool {
+    let (Some(end), Some((_, word))) = (end_of(before), word_at(line, 1)) else {
+        return false;
+    };
+    let numbered = line.trim_start();
+    let is_later = numbered.starts_with(|c: char| c.is_ascii_digit())
+        && !numbered.starts_with("1.");
+    (ply == 1 || is_later) && read(&end, word).is_ok()
+}
+
+// Whether the game of the line before this one goes on in it.
+fn goes_on_in(list: &str, line: usize, ply: usize) -> bool {
+    let (Some(before), Some(text)) = (line_at(list, line.saturating_sub(1)), line_at(list, line))
+    else {
+        return false;
+    };
+    goes_on(
+        before.trim_end_matches('\r'),
+        text.trim_end_matches('\r'),
+        ply,
+    )
 }
 
 /// Whether a text begins with a move of the initial array, as a list is read.
@@ -152,7 +199,8 @@ pub fn is_like_game(text: &str) -> bool {
 }
 
 /// The word of a list of games that is refused, by its line and its ply in it, both from 1, and what it is where that
-/// is known, as a result or a comment; else up to three legal moves whose texts are nearest to it. Of a word of more
+/// is known, as a result or a comment, or the legal move that is meant where it is written otherwise, as `e:d5` or `Dxd5`;
+/// or that the game of the line before goes on there; else up to three legal moves whose texts are nearest to it. Of a word of more
 /// than 24 bytes, or of much that wants escapes, the front is shown with two points behind it. Nothing where there is
 /// no such word, or where memory is refused, which is taken from `alloc`.
 pub fn on_move(alloc: Global, list: &str, line: usize, ply: usize) -> Hint {
@@ -160,6 +208,14 @@ pub fn on_move(alloc: Global, list: &str, line: usize, ply: usize) -> Hint {
     let Some(text) = line_at(list, line) else {
         return hint;
     };
+    if goes_on_in(list, line, ply) {
+        let before = line.saturating_sub(1);
+        let _ = write!(
+            hint,
+            "it goes on with the game of line {before}; a game is one line"
+        );
+        return hint;
+    }
     let text = text.strip_suffix('\r').unwrap_or(text);
     if let Some((position, word)) = word_at(text, ply) {
         let _ = write_word(alloc, &position, word, &mut hint);

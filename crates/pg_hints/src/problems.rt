@@ -2,7 +2,7 @@
 
 use crate::Hint;
 use crate::diagrams::on_diagram;
-use crate::meant::meant_by;
+use crate::meant::{is_open, meant_by};
 use pg_fen::{FenFault, Length};
 use std::fmt;
 use std::fmt::Write;
@@ -119,6 +119,12 @@ pub fn on_few_words(line: &str) -> Option<Remark> {
     Some(Remark::new(word.column, sentence))
 }
 
+// Whether a word is the number of a move, and dots.
+fn is_move_number(word: &str) -> bool {
+    let rest = word.trim_start_matches(|c: char| c.is_ascii_digit());
+    rest.len() < word.len() && !rest.is_empty() && rest.trim_start_matches('.').is_empty()
+}
+
 // Which word of a line, from the third on, looks like a placement, counted from 0.
 fn placement_in(line: &str) -> Option<usize> {
     let words = line.split([' ', '\t']).filter(|word| !word.is_empty());
@@ -147,7 +153,7 @@ fn on_words(line: &str, column: usize, count: usize) -> Remark {
 }
 
 /// What is wrong with the second word of a line, which is refused as a diagram with this fault: a name of more words, a
-/// length before the diagram, or what `on_diagram` says.
+/// length before the diagram, the game of the line before, or what `on_diagram` says.
 pub fn on_placement(line: &str, fault: FenFault) -> Option<Remark> {
     let word = word_at(line, 1)?;
     if !is_like_placement(word.text) {
@@ -156,6 +162,9 @@ pub fn on_placement(line: &str, fault: FenFault) -> Option<Remark> {
                 return Some(Remark::new(word.column, "the diagram stands before the length"));
             }
             return Some(on_words(line, word.column, place));
+        }
+        if is_move_number(word_at(line, 0)?.text) {
+            return Some(Remark::new(1, "a problem and its game are one line"));
         }
     }
     let hint = on_diagram(word.text, fault);
@@ -183,6 +192,10 @@ pub fn on_problem_length(line: &str) -> Option<Remark> {
             hint,
             "a length is in moves: write {}",
             length.write().as_str()
+        ),
+        None if is_open(word.text) => write!(
+            hint,
+            "one length is wanted; `pg solve DIAGRAM` finds the least that has a game"
         ),
         None => write!(hint, "a length is in moves, as 2.0 or 2.5"),
     };

@@ -38,7 +38,7 @@ pub fn on_known(games: usize) -> Hint {
     hint
 }
 
-/// The length to ask for, where a game of `plies` plies was met.
+/// The length to ask for, where one of `plies` plies is meant.
 pub fn on_length(plies: u8) -> Hint {
     let mut hint = Hint::new();
     let _ = write!(hint, "try the length {}", moves_of(plies).as_str());

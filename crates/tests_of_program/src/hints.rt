@@ -17,7 +17,7 @@ rnbqkbnr/pppppppp/8/8/8/8/PPPPPPPP/RNBQKBNX => 'X' in rank 1; men are KQRBNP and
 rnbqkbnr/pppppppp/8/3é4/8/8/PPPPPPPP/RNBQKBNR => 'é' (U+00E9) in rank 5; men are KQRBNP and kqrbnp
 rnbqkbnr/pppppppp/8/8/8/8/PPPPPPPP/RNBQKBN\u{10ffff} => '\\u{10ffff}' (U+10FFFF) in rank 1; men are KQRBNP and kqrbnp
 rnbqqbnr/pppppppp/8/8/8/8/PPPPPPPP/RNBQKBKR => white has 2, black 0
-8/8/8/8/8/8/8/8 w - - => fields: 4; a diagram has 1, a FEN 6
+8/8/8/8/8/8/8/8 w - - => fields: 4; a diagram has 1, a FEN 6: add 0 1
 4k3/8/8/8/8/8/8/4K3 x - - 0 1 => 
  => fields: 0; a diagram has 1, a FEN 6
 8/8/8/8/8/8/8/8 w => fields: 2; a diagram has 1, a FEN 6
@@ -35,7 +35,12 @@ k7/8/8/8/8/8/8/p1p4K => black pawn on a1
 rnbqkbnr/pppppppp/8/8/8/8/PPPPPPPP/RNBQKBNR, => ',' in rank 1 is no man and no number
 rnbqkbnr/pppp\u{41a}pppp/8/8/8/8/PPPPPPPP/RNBQKBNR => '\u{41a}' in rank 7 is no man and no number
 rnbq\u{41a}bnr/pppppppp/8/8/8/8/PPPPPPPP/RNBQKBNR => '\u{41a}' (U+041A) in rank 8; men are KQRBNP and kqrbnp
-2.0 => the diagram stands before the length";
+2.0 => the diagram stands before the length
+rnbqkbnr/pppppppp//8/8/8/PPPPPPPP/RNBQKBNR => rank 6 is 0 squares wide, not 8; an empty rank is 8
+tsldklst/bbbbbbbb/8/8/8/8/BBBBBBBB/TSLDKLST => in English letters it is rnbqkbnr/pppppppp/8/8/8/8/PPPPPPPP/RNBQKBNR
+tcfdrfct/pppppppp/8/8/8/8/PPPPPPPP/TCFDRFCT => in English letters it is rnbqkbnr/pppppppp/8/8/8/8/PPPPPPPP/RNBQKBNR
+tsldklst/bbbbbbbb/8/8/8/8/BBBBBBBB/TSLDDLST => 't' in rank 8; men are KQRBNP and kqrbnp
+tsldklst/bbbbbbbb/8/8/8/8/BBBBBBBB/TSLDKLSX => 't' in rank 8; men are KQRBNP and kqrbnp";
 
 // What is said of a text that is refused as a diagram.
 fn check_diagram(rt: &impl Abort, row: &str) {
@@ -86,10 +91,29 @@ fn hints_on_positions(rt: HostRuntime) {
 // A list, of which a slash before `1.` parts the lines, the line and the ply of a word, and what is said of it:
 // castling, promotion and a capture in passing too, for either side.
 const MOVES: &str = "1. e4 e5 2. Nf9 | 1 | 3 => the word is \"Nf9\"; legal there: Nf3, Nc3, Qf3
-e4 d5/1.e4 d5 2.ed5 Dxd5 | 2 | 4 => the word is \"Dxd5\"; men are K, Q, R, B and N, as in English
+e4 d5/1.e4 d5 2.ed5 Dxd5 | 2 | 4 => the word is \"Dxd5\"; write Qxd5
 e4 d5/1.e4 d5 2.ed5 qxd5 | 2 | 4 => the word is \"qxd5\"; legal there: Qxd5, b5, c5
 e4 e5 Лf3 | 1 | 3 => the word is \"Лf3\"; men are K, Q, R, B and N, as in English
-e4 Pe5 | 1 | 2 => the word is \"Pe5\"; a pawn has no letter
+e4 Pe5 | 1 | 2 => the word is \"Pe5\"; write e5
+e4 e5 Pf3 | 1 | 3 => the word is \"Pf3\"; a pawn has no letter, a knight is N
+e4 e5 Ph6 | 1 | 3 => the word is \"Ph6\"; a pawn has no letter, a knight is N
+e4 e5 Nf3 a6 Pxe5 | 1 | 5 => the word is \"Pxe5\"; write Nxe5
+e4 e5 Dh5 | 1 | 3 => the word is \"Dh5\"; write Qh5
+e4 e5 Lc4 | 1 | 3 => the word is \"Lc4\"; write Bc4
+e4 e5 Fc4 | 1 | 3 => the word is \"Fc4\"; write Bc4
+e4 e5 Ac4 | 1 | 3 => the word is \"Ac4\"; write Bc4
+e4 e5 Cf3 | 1 | 3 => the word is \"Cf3\"; write Nf3
+a4 e5 Ta3 | 1 | 3 => the word is \"Ta3\"; write Ra3
+e4 e5 Ta3 | 1 | 3 => the word is \"Ta3\"; men are K, Q, R, B and N, as in English
+e4 d5 e:d5 | 1 | 3 => the word is \"e:d5\"; write exd5
+e4 d5 ed5 Q×d5 | 1 | 4 => the word is \"Q×d5\"; write Qxd5
+e2–e4 | 1 | 1 => the word is \"e2–e4\"; write e4
+e4, e5 | 1 | 1 => the word is \"e4,\"; write e4
+e4\u{a0}e5 | 1 | 1 => the word is \"e4\\u{a0}e5\"; a no-break space stands in it: write a plain one
+o-o | 1 | 1 => the word is \"o-o\"; castling is not legal there
+e4 e5 0-0-0 | 1 | 3 => the word is \"0-0-0\"; castling is not legal there
+e4 e5 Nf3 a6 Be2 b6 o-o | 1 | 7 => the word is \"o-o\"; write O-O
+e4/1. d4/1. x | 3 | 1 => the word is \"x\"; legal there: a3, a4, b3
 e4 e5 1-0 | 1 | 3 => the word is \"1-0\"; results are not read; leave it out
 e4 e5 1/2-1/2 | 1 | 3 => the word is \"1/2-1/2\"; results are not read; leave it out
 e4 e5 * | 1 | 3 => the word is \"*\"; results are not read; leave it out
@@ -99,7 +123,9 @@ e4 e5 * | 1 | 3 => the word is \"*\"; results are not read; leave it out
 1. e4 (1. d4) e5 | 1 | 2 => the word is \"(1.\"; variations are not read; leave it out
 1. e4 $1 e5 | 1 | 2 => the word is \"$1\"; glyphs are not read; leave it out
 [Event \"?\"] | 1 | 1 => the word is \"[Event\"; tag pairs are not read; leave it out
-♘f3 | 1 | 1 => the word is \"♘f3\"; men are K, Q, R, B and N, not figurines
+♘f3 | 1 | 1 => the word is \"♘f3\"; write Nf3
+♞f6 | 1 | 1 => the word is \"♞f6\"; men are K, Q, R, B and N, not figurines
+♙e4 | 1 | 1 => the word is \"♙e4\"; write e4
 \u{feff}e4 | 1 | 1 => the word is \"\\u{feff}e4\"; a byte order mark stands before it
 1. e3 e6 2. Nf3 Nf6 3. Be2 Be7 4. OO | 1 | 7 => the word is \"OO\"; legal there: O-O, a3, a4
 1. e4 a6 2. e5 d5 3. exd6ep.. | 1 | 5 => the word is \"exd6ep..\"; legal there: exd6, Bxa6, e6
@@ -143,6 +169,28 @@ fn hints_on_moves(rt: HostRuntime) {
     for row in MOVES.lines() {
         check_move(&rt, row);
     }
+}
+
+// What is said of the word of the last line with this ply.
+fn check_last<R: Abort + AllocGlobal>(rt: &R, list: &str, ply: usize, wanted: &str) {
+    let said = on_move(rt.alloc(), list, list.lines().count(), ply);
+    assert_eq!(rt; said.as_str(), wanted, "{list}");
+}
+
+#[test]
+fn games_over_two_lines(rt: HostRuntime) {
+    let on = "it goes on with the game of line 1; a game is one line";
+    check_last(&rt, "1. e4 d5\n2. exd5 Qxd5", 1, on);
+    check_last(&rt, "1. e4 d5\r\n2. exd5 Qxd5\r", 1, on);
+    check_last(&rt, "1. e4 d5\n2. d4 dxe4", 2, on);
+    check_last(&rt, "1. e4\nd5 2. exd5", 1, on);
+    check_last(&rt, "1. e4 d5\n2. d4 e5 dxe4", 3, on);
+    let first = "the word is \"exd5\"; legal there: d3, d4, e3";
+    check_last(&rt, "1. e4 x\n2. exd5 Qxd5", 1, first);
+    check_last(&rt, "2. exd5 Qxd5", 1, first);
+    check_last(&rt, "1. e4 d5\n1. exd5 Qxd5 Nf9", 3, "");
+    let there = "the word is \"dxe4\"; legal there: d5, d6, e5";
+    check_last(&rt, "1. e4 d5\n1. d4 dxe4", 2, there);
 }
 
 #[test]

@@ -2,8 +2,8 @@
 
 use pg_fen::Diagram;
 use pg_hints::{
-    Remark, hyphen_wanted_in, is_like_game, on_few_words, on_name, on_placement, on_problem_length,
-    on_turned,
+    Remark, hyphen_wanted_in, is_game_in_words, is_like_game, is_open, is_unit_apart_in,
+    on_few_words, on_name, on_placement, on_problem_length, on_turned,
 };
 use std::process::Abort;
 
@@ -41,13 +41,19 @@ A  b c 8/8/8/8/8/8/8/8 => 4: a name is one word: write A_b_c
 x 2.0 8/8/8/8/8/8/8/8 => 3: the diagram stands before the length
 x 2 b 8/8/8/8/8/8/8/8 => 3: a name is one word: write x_2_b
 x 8/8 2.0 => 3: 2 ranks; a board has 8
+2. exd5 Qxd5 => 1: a problem and its game are one line
+2... 8/8 2.0 => 1: a problem and its game are one line
+2 8/8 2.0 => 3: 2 ranks; a board has 8
 x 8/8/8/8/8/8/8/8 2.0 => 3: white has 0, black 0";
 
 // What is said of a third word that is no length.
 const LENGTHS: &str = "x 8/8/8/8/8/8/8/8 2,0 => 19: a length is in moves: write 2.0
 x d w KQkq - 0 1 2.0 => 5: the length stands behind the first field of the FEN: leave the others out
 x d b => 5: the length stands behind the first field of the FEN: leave the others out
-x d ? => 5: a length is in moves, as 2.0 or 2.5
+x d ? => 5: one length is wanted; `pg solve DIAGRAM` finds the least that has a game
+x d 2.0-2.5 => 5: one length is wanted; `pg solve DIAGRAM` finds the least that has a game
+x d 2½ => 5: a length is in moves: write 2.5
+x d soon => 5: a length is in moves, as 2.0 or 2.5
 x d => ";
 
 #[test]
@@ -112,6 +118,44 @@ no games
 no e5
 no -
 no ../e4";
+
+// Words of a command line behind its name, that spaces part, with underscores for spaces in them; and what of it is to be
+// one word: a game, a time, or neither.
+const PARTS: &str = "solve 8 2.0 1._e4_e5 => game
+solve 8 1. e4 e5 => game
+solve 8 --game 1. e4 => game
+solve 8 --game 1._e4_e5 => 
+games 8 2.0 e4 => 
+solve 8 --minutes 5 m => time
+search 8 2.0 new --minutes 5 min => time
+search 8 2.0 new --minutes 5 => 
+search 8 2.0 m --minutes 5 => ";
+
+fn check_parts<R: Abort + AllocGlobal>(rt: &R, row: &str) {
+    let (text, wanted) = row.split_once(" => ").expect(rt, row);
+    let mut words = Vec::new(rt.alloc());
+    let name = String::from_str(rt.alloc(), "pg").expect(rt, row);
+    words.push(name).expect(rt, row);
+    for word in text.split(' ') {
+        let word = word.replace(rt.alloc(), "_", " ").expect(rt, row);
+        words.push(word).expect(rt, row);
+    }
+    let (game, time) = (
+        is_game_in_words(words.as_slice()),
+        is_unit_apart_in(words.as_slice()),
+    );
+    assert_eq!(rt; game, wanted == "game", "{row}");
+    assert_eq!(rt; time, wanted == "time", "{row}");
+}
+
+#[test]
+fn words_in_parts(rt: HostRuntime) {
+    for row in PARTS.lines() {
+        check_parts(&rt, row);
+    }
+    assert!(rt; !is_game_in_words(&[]) && !is_unit_apart_in(&[]));
+    assert!(rt; is_open("?") && is_open("2.0-2.5") && is_open("2–3") && !is_open("soon"));
+}
 
 #[test]
 fn words_in_the_place_of_others(rt: HostRuntime) {
