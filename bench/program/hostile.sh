@@ -340,6 +340,35 @@ expect 2 $'pg: bad rank\npg: the diagram stands before the length' '"$pg" games 
 expect 2 $'pg: games are not UTF-8\npg: it looks like a certificate; CERT stands before GAMES' '"$pg" check $queen 2.0 games good.pgc --hints' ''
 expect 4 $'pg: cannot open e4 e5\npg: No such file or directory (os error 2)\npg: it looks like a game; a file with one game a line is wanted' \
   '"$pg" games $open 1.0 "e4 e5" --hints' ''
+expect 1 $'pg: truncated certificate\npg: it looks like a list of games; `pg search` writes a certificate' '"$pg" answer games --hints' ''
+expect 2 $'pg: line 1, ply 1: not a move\npg: the word is "games"; legal there: Na3, a3, a4\npg: a file has this name: say --games' \
+  '"$pg" solve $queen 2.0 --game games --hints' ''
+for row in 'e:d5|exd5' 'e4–d5|exd5' '♘f3|Nf3' 'Df3|Qf3' 'Cf3|Nf3' 'c4,|c4'; do
+  expect 2 $'pg: line 1, ply 3: not a move\npg: the word is "'"${row%|*}"'"; write '"${row#*|}" '"$pg" why good.pgc "1. e4 d5 2. ${row%|*}" --hints' ''
+done
+printf '1. e4 d5\n2. exd5 Qxd5\n' >../wrapped
+expect 2 $'pg: line 2, ply 1: no such legal move\npg: it goes on with the game of line 1; a game is one line' \
+  '"$pg" games $queen 2.0 ../wrapped --hints' ''
+expect 2 $'pg: bad rank\npg: rank 6 is 0 squares wide, not 8; an empty rank is 8' '"$pg" solve ${open/\/8\//\/\/} 2.0 --hints' ''
+expect 2 $'pg: wrong number of fields\npg: fields: 4; a diagram has 1, a FEN 6: add 0 1' '"$pg" solve "$open w KQkq -" 2.0 --hints' ''
+expect 2 $'pg: bad letter in the placement\npg: in English letters it is '$array '"$pg" solve tsldklst/bbbbbbbb/8/8/8/8/BBBBBBBB/TSLDKLST --hints' ''
+for length in '?' 2.0-2.5; do
+  expect 2 $'pg: bad length\npg: a length is in moves, as 2.0 or 2.5\npg: this finds the least that has a game: pg solve '$open \
+    '"$pg" search $open "$length" new.pgc --hints' ''
+done
+expect 2 $'pg: bad number of minutes\npg: it is as 5, 0.5, 90s, 5m or 2h' '"$pg" solve $open 2.0 --minutes "5 m" --hints' ''
+expect 2 'pg: a time is one word: as 5, 90s, 5m or 2h' '"$pg" solve $open 2.0 --minutes 5 m --hints 2>&1 | tail -n 1 >&2; exit ${PIPESTATUS[0]}' ''
+expect 2 'pg: a game is one word in quotes, behind --game' '"$pg" solve $open 1.0 1. e4 e5 --hints 2>&1 | tail -n 1 >&2; exit ${PIPESTATUS[0]}' ''
+expect 4 $'pg: cannot open /dev/null\npg: it is no plain file\npg: this writes no certificate: pg solve '"$queen 2.0" \
+  '"$pg" search $queen 2.0 /dev/null --hints' ''
+
+# A search that met a shorter game, or more games than it may, says with --hints which command shows them.
+expect 1 $'pg: a game of 4 plies reaches the diagram\npg: this shows it: pg solve '"$queen 2.0" '"$pg" search $queen 3.0 new.pgc --hints' ''
+pawns=rnbqkbnr/5ppp/ppppp3/8/8/PPPPP3/5PPP/RNBQKBNR # 14,400 games of five pawn moves of each side, in any order
+expect 1 $'pg: more than 4096 games\npg: 207483 nodes, tree 5.0 of 5.0\npg: 4096 games known: not sound\npg: this shows two of them: pg solve '"$pawns 5.0" \
+  '"$pg" search $pawns 5.0 new.pgc --hints' ''
+expect 1 '' '"$pg" solve $pawns 5.0' "$(printf '%s\n' "diagram $pawns" 'length 5.0' 'games 2' '1. a3 a6 2. b3 b6 3. c3 c6 4. d3 d6 5. e3 e6' \
+  '1. a3 a6 2. b3 b6 3. c3 c6 4. d3 e6 5. e3 d6' 'the first two part at move 4 of Black, with the same moves in another order' 'not sound')"
 expect 2 "error: unexpected argument '-j' found
 
   tip: to pass '-j' as a value, use '-- -j'
@@ -894,7 +923,7 @@ if command -v script >/dev/null; then
   done
   [ "$(cat "$work/said-of-journeys")" = "pg: this reaches further: pg solve $queen 2.0 --minutes 10" ] && [ ! -s "$work/said-of-tolls" ] ||
     { echo "not told which command reaches further" >&2; wrong=1; }
-  says "'$pg' search $queen 3.0 new.pgc" 'pg: a game of 4 plies reaches the diagram' 'pg: try the length 2.0'
+  says "'$pg' search $queen 3.0 new.pgc" 'pg: a game of 4 plies reaches the diagram' "pg: this shows it: pg solve $queen 2.0"
   on_terminal "'$pg' search $schweig 4.0 new.pgc --minutes 0" >"$work/said"
   printf '%s\n' 'pg: time limit reached' "pg: this reaches further: pg solve $schweig 4.0 --minutes 10" \
     'pg: try `pg cooks` with a game, `pg show DIAGRAM LENGTH` for a forecast, or more --minutes' | diff - <(sed 2d "$work/said") >&2 &&

@@ -82,8 +82,8 @@ fn translated(position: &Position, word: &str) -> Option<San> {
     }
 }
 
-// The one legal move that is meant by a word which names none: with `:` or a cross for `x`, a long dash, small letters of
-// castling, a comma behind it, figurines, or letters of other languages.
+// The one legal move that is meant by a word which names none: with `:` or a cross for `x`, a long dash, small letters
+// of castling, a comma behind it, figurines, or letters of other languages.
 pub(crate) fn move_meant_by(position: &Position, word: &str) -> Option<San> {
     let plain = plain_word(word)?;
     match legal_in(position, plain.as_str()) {

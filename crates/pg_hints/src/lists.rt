@@ -199,10 +199,10 @@ pub fn is_like_game(text: &str) -> bool {
 }
 
 /// The word of a list of games that is refused, by its line and its ply in it, both from 1, and what it is where that
-/// is known, as a result or a comment, or the legal move that is meant where it is written otherwise, as `e:d5` or `Dxd5`;
-/// or that the game of the line before goes on there; else up to three legal moves whose texts are nearest to it. Of a word of more
-/// than 24 bytes, or of much that wants escapes, the front is shown with two points behind it. Nothing where there is
-/// no such word, or where memory is refused, which is taken from `alloc`.
+/// is known, as a result or a comment, or the legal move that is meant, as by `e:d5` or `Dxd5`; else up to three legal
+/// moves whose texts are nearest to it. Of a word of more than 24 bytes, or of much that wants escapes, the front is shown
+/// with two points behind it. In place of all that, whether the game of the line before goes on there. Nothing where there
+/// is no such word, or where memory is refused, which is taken from `alloc`.
 pub fn on_move(alloc: Global, list: &str, line: usize, ply: usize) -> Hint {
     let mut hint = Hint::new();
     let Some(text) = line_at(list, line) else {

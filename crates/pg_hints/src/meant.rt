@@ -25,8 +25,8 @@ fn of_plies(number: &str) -> Option<Length> {
 }
 
 /// The one length that is meant by a text that is none: a comma stands for the dot, as in `2,0`; the plies are counted,
-/// as in `8 plies`; the half of a move is one sign, as in `2½`; or a dot or three stand behind the moves, as in `4...`. None where
-/// no length is meant so.
+/// as in `8 plies`; the half of a move is one sign, as in `2½`; or a dot or three stand behind the moves, as in `4...`.
+/// None where no length is meant so.
 pub fn meant_by(text: &str) -> Option<Length> {
     if let Some((moves, half)) = text.split_once(',') {
         return with_dot(moves, half);

@@ -179,7 +179,7 @@ pub fn on_placement(line: &str, fault: FenFault) -> Option<Remark> {
 }
 
 /// What is wrong with the third word of a line, which is no length: another field of a FEN, or a length that is written
-/// otherwise.
+/// otherwise or left open.
 pub fn on_problem_length(line: &str) -> Option<Remark> {
     let word = word_at(line, 2)?;
     if matches!(word.text, "w" | "b") {

@@ -119,8 +119,8 @@ no e5
 no -
 no ../e4";
 
-// Words of a command line behind its name, that spaces part, with underscores for spaces in them; and what of it is to be
-// one word: a game, a time, or neither.
+// Words of a command line behind its name, that spaces part, with underscores for spaces in them; and what of it is to
+// be one word: a game, a time, or neither.
 const PARTS: &str = "solve 8 2.0 1._e4_e5 => game
 solve 8 1. e4 e5 => game
 solve 8 --game 1. e4 => game
