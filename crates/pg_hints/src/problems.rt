@@ -134,11 +134,13 @@ fn placement_in(line: &str) -> Option<usize> {
 
 // Writes the first words of a line as one name.
 fn write_name(line: &str, count: usize, hint: &mut Hint) -> fmt::Result {
-    let mut before = "a name is one word: write ";
+    hint.write_str("a name is one word: write ")?;
     let words = line.split([' ', '\t']).filter(|word| !word.is_empty());
-    for word in words.take(count) {
-        write!(hint, "{before}{word}")?;
-        before = "_";
+    for (i, word) in words.take(count).enumerate() {
+        if i > 0 {
+            hint.write_str("_")?;
+        }
+        hint.write_str(word)?;
     }
     Ok(())
 }
