@@ -12,7 +12,7 @@ ghost use Rattle.pg_cli.specs.Words.{says_of_problem};
 ghost use Rattle.pg_cli.specs.declared.commands.ProblemCommand.TheVariants.{Games as TheGames, Cooks as TheCooks};
 
 use crate::checking::finished;
-use crate::limits::reach_of;
+use crate::limits::{Reach, reach_of};
 use crate::refusals::{Named, Refusal};
 use crate::screen::Screen;
 use clap::ArgMatches;
@@ -216,6 +216,36 @@ pub(crate) fn games<R: Runtime + AllocGlobal>(
     games_from(&listed.problem, &listed.games, &mut out)
 }
 
+// Looks for a game beside those of a list, as `cooks_from` does, within the time that there is, and shows how far it is.
+#[inline(never)]
+fn cooks_within<R: Runtime + AllocGlobal, W: Sink>(
+    rt: &R,
+    listed: &Listed,
+    limits: LedLimits,
+    reach: Reach,
+    terminal: &Terminal,
+    out: &mut Gathered<W>,
+) -> Result<u8, Refusal>
+    ensures headline { IfOk result (λ status. status ≡ 1
+        → IsUnsound listed.now.problem.diagram listed.now.problem.length) }
+    ensures status { IfOk result (λ status. IsFollowedWith listed.now.problem.diagram listed.now.problem.length
+        listed.now.games status) }
+{
+    let allowed = reach.allowed();
+    let line = LedLine::new(rt, terminal, listed.problem.length.plies(), allowed);
+    let mut timed = Timed::new(line, Deadline::new(rt, reach.milliseconds));
+    let answer = cooks_from(
+        rt.alloc(),
+        &listed.problem,
+        &listed.games,
+        limits,
+        &mut timed,
+        out,
+    );
+    timed.line.end();
+    answer
+}
+
 // `pg cooks`: what is found beside the list stands on standard output. The list is that of the file GAMES, of which no
 // contract can say what it gives.
 #[inline(never)]
@@ -235,20 +265,7 @@ pub(crate) fn cooks<R: Runtime + AllocGlobal>(
             .get_one::<u64>("foreign")
             .and_then(|d| u8::try_from(d).ok()),
     };
-    let plies = listed.problem.length.plies();
-    let allowed = reach.allowed();
     let terminal = Terminal::new(screen.lines);
-    let line = LedLine::new(rt, &terminal, plies, allowed);
-    let mut timed = Timed::new(line, Deadline::new(rt, reach.milliseconds));
     let mut out = Gathered::new(Cleared::new(ToWrite::new(io::writer(rt)), rt, &terminal));
-    let answer = cooks_from(
-        rt.alloc(),
-        &listed.problem,
-        &listed.games,
-        limits,
-        &mut timed,
-        &mut out,
-    );
-    timed.line.end();
-    answer
+    cooks_within(rt, &listed, limits, reach, &terminal, &mut out)
 }

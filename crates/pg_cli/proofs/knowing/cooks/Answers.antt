@@ -6,5 +6,5 @@ pub returns : goal.returns
 returns g c =
     let l = c.in_ok-listed.listed in
     let text = c.in_ok-listed.ensures.games in
-    both_tell c.cooks_from-answer.result _ _ _ c.cooks_from-answer.ensures.headline c.cooks_from-answer.ensures.status
+    both_tell c.cooks_within.result _ _ _ c.cooks_within.ensures.headline c.cooks_within.ensures.status
     (λ s h k. given_so c.args.problem l.problem _ c.in_ok-listed.ensures.problem (h, (text.0, l.games, text.1, k)))
