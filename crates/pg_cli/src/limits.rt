@@ -33,7 +33,10 @@ fn milliseconds(words: &ArgMatches<'_>) -> Option<u64> {
 
 // The number of nodes or of bytes that the word with this name says; the usual one where there is no such word.
 pub(crate) fn amount(words: &ArgMatches<'_>, name: &str, usual: u64) -> u64 {
-    words.get_str(name).and_then(amount_of).unwrap_or(usual)
+    match words.get_str(name) {
+        Some(text) => amount_of(text).unwrap_or(usual),
+        None => usual,
+    }
 }
 
 // How far the words let a search go: with minutes and no number of nodes, so far as the time reaches.

@@ -1,4 +1,5 @@
 //! What is told on standard error of the lines of a list of problems.
+ghost use Rattle.std.specs.Prelude.{◌≡◌};
 
 use crate::lists::{tell_end, tell_moves};
 use pg_fen::LengthFault;
