@@ -86,8 +86,11 @@ abbrev pub IsCutOff : List ℕ → Option (List ℕ) → Option (List ℕ) → B
 IsCutOff text before after failed Memory = AddsSome (AreJudgedSoFar text) before after
 IsCutOff text before after failed refusal = EndsRun failed refusal
 
--- what a status of `pg judge` says: the lines of a text that the word PROBLEMS gives, but for a byte order mark at its
--- front, are judged, with this status
+-- the lines of a text, but for a byte order mark at its front, are judged, with this status
+abbrev pub IsTextJudged : List ℕ → ℕ → Type 0
+IsTextJudged text status =
+    (rest : List ℕ) × IsUnmarked text rest × (rows : List ℕ) × AreJudged (lines rest) status rows
+
+-- what a status of `pg judge` says: those of a text that the word PROBLEMS gives are
 abbrev pub IsListJudged : (Text → List ℕ → Type 0) → Text → ℕ → Type 0
-IsListJudged Gives name status = (text : List ℕ) × Gives name text × (rest : List ℕ) × IsUnmarked text rest
-    × (rows : List ℕ) × AreJudged (lines rest) status rows
+IsListJudged Gives name status = (text : List ℕ) × Gives name text × IsTextJudged text status

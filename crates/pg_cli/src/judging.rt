@@ -9,7 +9,7 @@ ghost use Rattle.pg_san.specs.GameText.{lines};
 ghost use Rattle.pg_streams.specs.Buffer.{IsHandedOn};
 ghost use Rattle.pg_cli.specs.Answers.{IsGivenBy};
 ghost use Rattle.pg_cli.specs.Judging.{AreJudged, EndsRun, IsCutOff, IsFindingStatus, IsJudged, IsListJudged};
-ghost use Rattle.pg_cli.specs.Judging.{IsRowStatus, IsRuled, IsSpoiled, IsStanding};
+ghost use Rattle.pg_cli.specs.Judging.{IsRowStatus, IsRuled, IsSpoiled, IsStanding, IsTextJudged};
 ghost use Rattle.pg_cli.specs.Runs.{IsOfFile};
 ghost use Rattle.pg_cli.specs.Words.{spelled};
 
@@ -667,6 +667,23 @@ fn judge_all<R: Runtime + AllocGlobal, W: Sink>(
     Ok(worst)
 }
 
+// Judges the problems of a text, behind a byte order mark if one stands at its front, and hands on their rows.
+fn judge_text<R: Runtime + AllocGlobal, W: Sink>(
+    rt: &R,
+    text: &[u8],
+    orders: &Orders<'_>,
+    screen: Screen,
+    terminal: &Terminal,
+    out: &mut Gathered<W>,
+) -> Result<u8, Refusal>
+    ensures ok { IfOk result (IsTextJudged text.now) }
+    ensures err { IfErr result IsOfFile }
+{
+    let rest = unmarked(text);
+    let count = Count::new(rt, rest, screen.hints);
+    judge_all(rt, rest, orders, count, terminal, out)
+}
+
 // The bytes of the list of problems: of a file, or of standard input where its name is a hyphen.
 fn problems_of<R: Runtime + AllocGlobal>(rt: &R, words: &ArgMatches<'_>) -> Result<Vec<u8>, Refusal>
     ensures ok { IfOk result (λ text. IsGivenBy R.File.remaining R.Reader.remaining
@@ -723,7 +740,5 @@ pub(crate) fn judge<R: Runtime + AllocGlobal>(
     };
     let terminal = Terminal::new(screen.lines);
     let mut out = Gathered::new(Cleared::new(ToWrite::new(io::writer(rt)), rt, &terminal));
-    let text = unmarked(text.as_slice());
-    let count = Count::new(rt, text, screen.hints);
-    judge_all(rt, text, &orders, count, &terminal, &mut out)
+    judge_text(rt, text.as_slice(), &orders, screen, &terminal, &mut out)
 }
