@@ -12,6 +12,7 @@ orders=rnbqkbnr/pppp1ppp/4p3/8/8/3PP3/PPP2PPP/RNBQKBNR
 unreachable=rnbqkbnr/pppppppp/8/8/8/3P4/PPPP1PPP/RNBQKBNR
 schweig=r1bqkbnr/ppp2ppp/3p4/8/8/8/PPPPPPPP/R1BQKBNR
 cooked=rnbqkbnr/p1pppppp/8/8/8/3QP3/PPP2PPP/RNB1K1NR
+endless=4r3/2p1ppBp/1N4kp/7n/1r3P2/5KP1/P3P1BP/bN1b2qR # a long search
 stalemate=5bnr/4p1pq/4Qpkr/7p/7P/4P3/PPPP1PP1/RNB1KBNR
 position="$array w KQkq - 0 1"
 files=$work/files
@@ -257,8 +258,9 @@ array_row=$(row array 0.0 sound solves 'search, 0 nodes' -)
 fails_row() { row array 0.0 sound "fails, $1" 'search, 0 nodes' -; }
 while IFS='|' read -r status list said printed; do
   printf -- "$list" >"$work/list"
-  expect "$status" "${said:+pg: $said}" '"$pg" judge ../list' "$printed"
-  expect "$status" "${said:+pg: $said}" '"$pg" judge - <../list' "$printed"
+  said=$(printf '%b' "${said:+pg: $said}")
+  expect "$status" "$said" '"$pg" judge ../list' "$printed"
+  expect "$status" "$said" '"$pg" judge - <../list' "$printed"
 done <<END
 0|||
 0|# nothing\n\n \t\n||
@@ -925,14 +927,14 @@ if command -v script >/dev/null; then
     { echo "not told which command reaches further" >&2; wrong=1; }
   says "'$pg' search $queen 3.0 new.pgc" 'pg: a game of 4 plies reaches the diagram' "pg: this shows it: pg solve $queen 2.0"
   on_terminal "'$pg' search $schweig 4.0 new.pgc --minutes 0" >"$work/said"
-  printf '%s\n' 'pg: time limit reached' "pg: this reaches further: pg solve $schweig 4.0 --minutes 10" \
+  printf '%s\n' 'pg: time limit reached' 'pg: no game known' "pg: this reaches further: pg solve $schweig 4.0 --minutes 10" \
     'pg: try `pg cooks` with a game, `pg show DIAGRAM LENGTH` for a forecast, or more --minutes' | diff - <(sed 2d "$work/said") >&2 &&
     sed -n 2p "$work/said" | grep -q '^pg: [0-9]* nodes\?, tree [0-9.]* of 4.0$' || { echo "a search whose time is over does not tell how far it is" >&2; wrong=1; }
   says "'$pg' search $cooked 3.5 new.pgc --nodes 8312" 'pg: node limit reached' 'pg: 8307 nodes, tree 3.5 of 3.5' 'pg: 2 games known: not sound' \
     "pg: this reaches further: pg solve $cooked 3.5 --minutes 10" 'pg: try `pg cooks` with a game, `pg show DIAGRAM LENGTH` for a forecast, or more --nodes'
 
   # A page of a long certificate that is refused shows how far its check is, takes that away, and prints nothing.
-  { cat long.pgc; ones 24000000; } >../many.pgc
+  { cat long.pgc; ones 96000000; } >../many.pgc
   script -qec "'$pg' page ../many.pgc >../page.html" /dev/null </dev/null | tr -d '\n' | tr '\r' '\n' >"$work/said"
   grep -q 'bytes [0-9]*% of file' "$work/said" || { echo "a long page does not show how far it is" >&2; wrong=1; }
   [ "$(tail -n 1 "$work/said")" = $'\e[Kpg: truncated certificate' ] && [ ! -s ../page.html ] || { echo "a refused page leaves something" >&2; wrong=1; }
@@ -947,7 +949,7 @@ if command -v script >/dev/null; then
 
   # A long search that is interrupted leaves a whole line, and the cursor below it.
   for seconds in 1.2 1.6 2.1; do
-    script -qec "timeout --foreground -s INT $seconds '$pg' search $stalemate 9.5 ../interrupted --nodes 3000000000" /dev/null </dev/null >"$work/said"
+    script -qec "timeout --foreground -s INT $seconds '$pg' search $endless 17.0 ../interrupted --nodes 3000000000" /dev/null </dev/null >"$work/said"
     [ "$(tail -c 7 "$work/said"; echo .)" = $'\e[?7h\r\n.' ] || { echo "an interrupted search does not leave a whole line" >&2; wrong=1; }
   done
 fi
