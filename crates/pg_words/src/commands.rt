@@ -58,9 +58,9 @@ const COOKS_EXAMPLE: &str =
     "The search keeps near the games of the list: first it plays their kinds of moves
 alone, then one foreign move, then two, and so on. A move is foreign where in
 these games no man of that kind goes from that square to that one; the last two
-plies may be any moves. A game that is found is tested and printed, with where it
-parts from the first of the list, and `not sound` below it. Else it says how far
-the search went: no proof of anything.
+plies may be any moves. A game that is found is tested and printed, with where
+it parts from the first of the list, and `not sound` below it. Else it says how
+far the search went: no proof of anything.
 
 Example:
   echo '1. e3 e6 2. d3' >games
@@ -287,7 +287,7 @@ const PAGE: Word = Word {
 
 const AUTHOR: Word = Word {
     name: "author",
-    kind: Kind::Named("TEXT"),
+    kind: Kind::Named("WHO"),
     help: "The author of the problem, behind the title",
 };
 
