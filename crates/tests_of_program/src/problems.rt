@@ -157,21 +157,27 @@ fn words_in_parts(rt: HostRuntime) {
     assert!(rt; is_open("?") && is_open("2.0-2.5") && is_open("2–3") && !is_open("soon"));
 }
 
+// The words of a command.
+fn words_of<R: Abort + AllocGlobal>(rt: &R, words: &[&str]) -> Vec<String> {
+    let mut given = Vec::new(rt.alloc());
+    for text in words {
+        let text = String::from_str(rt.alloc(), text).expect(rt, "memory");
+        given.push(text).expect(rt, "memory");
+    }
+    given
+}
+
 #[test]
 fn words_in_the_place_of_others(rt: HostRuntime) {
     for row in GAMES.lines() {
         let (is, text) = row.split_once(' ').expect(&rt, row);
         assert_eq!(rt; is_like_game(text), is == "yes", "{text}");
     }
-    let words = ["pg", "-h", "-", "--all", "-1", "-journeys", "-x1"];
-    let mut given = Vec::new(rt.alloc());
-    for text in words {
-        let text = String::from_str(rt.alloc(), text).expect(&rt, "memory");
-        given.push(text).expect(&rt, "memory");
-    }
+    let given = words_of(&rt, &["pg", "-h", "-", "--all", "-1", "-journeys", "-x1"]);
     assert_eq!(rt;
         hyphen_wanted_in(given.as_slice()).unwrap_or(""),
         "-journeys"
     );
-    assert!(rt; hyphen_wanted_in(&given.as_slice()[..5]).is_none());
+    let given = words_of(&rt, &["pg", "-h", "-", "--all", "-1"]);
+    assert!(rt; hyphen_wanted_in(given.as_slice()).is_none());
 }
