@@ -19,6 +19,8 @@ mod lines;
 #[cfg(test)]
 mod mistakes;
 #[cfg(test)]
+mod pgn;
+#[cfg(test)]
 mod problems;
 #[cfg(test)]
 mod searching;

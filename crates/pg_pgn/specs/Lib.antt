@@ -1,0 +1,4 @@
+pub mod Letters
+pub mod Tokens
+pub mod Places
+pub mod Pgn

@@ -1,0 +1,20 @@
+//! Games in PGN (the import format of the PGN standard, sections 7 and 8), in the letters of six languages and in
+//! figurines.
+#![tactic(auto)]
+
+mod fault;
+mod games;
+mod languages;
+mod letters;
+mod places;
+mod reading;
+mod signs;
+mod tags;
+mod tokens;
+mod words;
+
+pub use fault::{FormFault, PgnFault};
+pub use games::PgnGames;
+pub use languages::{fitting, letters_of, name_of};
+pub use letters::Letters;
+pub use reading::read_pgn;

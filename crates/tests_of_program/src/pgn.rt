@@ -1,0 +1,109 @@
+//! Games in PGN.
+
+use pg_pgn::{Letters, PgnFault, PgnGames, fitting, letters_of, name_of, read_pgn};
+use pg_position::{Move, Position};
+use pg_san::write;
+use std::alloc::AllocError;
+use std::process::Abort;
+
+// Rows of a language, a text in which `|` is a line end, and what it is read as.
+const TEXTS: &str = r#"english  -> 0:
+english * -> 1:
+english [Event "a"] -> 1:
+english [Event "a"]|1. e4 e5 * -> 1: e4 e5
+english 1.e4 e5 2.Nf3 {good (or not} Nc6 ; a } comment|3.Bb5 1-0 -> 1: e4 e5 Nf3 Nc6 Bb5
+english 1. e4 $1 e5!? 2 Nf3 (2. f4 exf4 (2... d5 3. exd5) 3. Nf3) 2... Nc6 *1.d4 -> 2: e4 e5 Nf3 Nc6 / d4
+english %hidden {|1. e4|% 1... c5|e5 -> 1: e4 e5
+english [White "A \"B\" ] \\"]||1. e4 1-0||[White "C"]|[Black "D"]|1. d4 [White "E"] -> 3: e4 / d4 /
+english 1. e4 !? d5 2. ed5: Nf6 3. c2-c4 e6 4. dxe6 + ! -> 0: line 1, column 20: game 1, ply 3: ed5: is not a move
+english e4 d5 e:d5 -> 1: e4 d5 exd5
+english e4 a6 e5 d5 exd6 e.p. -> 1: e4 a6 e5 d5 exd6
+english e4 a6 e5 d5 exd6e.p.! -> 1: e4 a6 e5 d5 exd6
+english 1.e4 e5 2.Nf3 Nf6 3.Bc4 Bc5 4.o-o 0-0 -> 1: e4 e5 Nf3 Nf6 Bc4 Bc5 O-O O-O
+english ♙e4 ♟e5 ♘f3 ♞c6 ♗×a6 -> 0: line 1, column 19: game 1, ply 5: ♗×a6 is no legal move
+english e4 d5 e×d5 ♛×d5 ♘c3 ♕d8 -> 0: line 1, column 22: game 1, ply 6: ♕d8 is no legal move
+english e2–e4 d7-d5 -> 1: e4 d5
+english 1. e4 e5 2. Nf3 Nc6 3. Nd2 -> 0: line 1, column 24: game 1, ply 5: Nd2 is no legal move
+english e4|e5 * d4|d5|Nd2 * -> 0: line 4, column 1: game 2, ply 3: Nd2 is no legal move
+english Nf3 a6 Nc3 a5 Nd4 a4 Nb5 h6 Nxa7 -> 1: Nf3 a6 Nc3 a5 Nd4 a4 Nb5
+english Nf3 a6 Nc3 a5 Nd4 a4 Nb5 h6 Na3 h5 N1c4 -> 1: Nf3 a6
+english [FEN "8/8"] -> 0: line 1, column 1: game 1: the tag FEN sets up a position
+english e4 *|[SetUp "1"] -> 0: line 2, column 1: game 2: the tag SetUp sets up a position
+english [SetUp "0"] e4 -> 1: e4
+english e4 {open -> 0: line 1, column 4: game 1: a comment is not closed
+english [Event "open] -> 0: line 1, column 1: game 1: a tag pair is not closed
+english [Event "open|] -> 0: line 1, column 1: game 1: a tag pair is not closed
+english e4 (d4 -> 0: line 1, column 7: game 1: a variation is not closed
+english e4 (d4 [Event "a"] -> 0: line 1, column 8: game 1: a variation is not closed
+english e4 ) -> 0: line 1, column 4: game 1: a bracket closes nothing
+german e4 e5 Sf3 Sc6 Lb5 a6 Lxc6 dxc6 Sxe5 Dd4 0-0 Dxe5 Te1 Dxe1 -> 1: e4 e5 Nf3 Nc6 Bb5 a6 Bxc6 dxc6 Nxe5 Qd4 O-O Qxe5 Re1 Qxe1+
+german e4 e5 Nf3 -> 0: line 1, column 7: game 1, ply 3: Nf3 is not a move
+french e4 e5 Cf3 Cc6 Fb5 a6 Fxc6 dxc6 Cxe5 Dd4 Cf3 Dxe4 Re2 -> 0: line 1, column 52: game 1, ply 13: Re2 is no legal move
+dutch e4 e5 Pf3 Pc6 Lb5 -> 1: e4 e5 Nf3 Nc6 Bb5
+spanish e4 e5 Cf3 Cc6 Ab5 -> 1: e4 e5 Nf3 Nc6 Bb5
+italian e4 e5 Cf3 Cc6 Ab5 -> 1: e4 e5 Nf3 Nc6 Bb5
+"#;
+
+// The bytes of a text with its line ends.
+fn bytes_of(rt: &(impl Abort + AllocGlobal), text: &str) -> Vec<u8> {
+    let mut bytes = Vec::new(rt.alloc());
+    for byte in text.as_bytes() {
+        let byte = if *byte == b'|' { b'\n' } else { *byte };
+        assert!(rt; bytes.push(byte).is_ok());
+    }
+    bytes
+}
+
+fn show_game(text: &mut String, game: &[Move]) -> Result<(), AllocError> {
+    let mut here = Position::array();
+    for m in game {
+        text.push_str(" ")?;
+        text.push_str(write(&here, *m).as_str())?;
+        match here.play(*m) {
+            Ok(next) => here = next,
+            Err(_) => return text.push_str(" illegal"),
+        }
+    }
+    Ok(())
+}
+
+fn show_games(rt: &impl AllocGlobal, games: &PgnGames) -> Result<String, AllocError> {
+    let count = games.len();
+    let mut text = format!(in rt.alloc(); "{count}:")?;
+    for i in 0..count {
+        if i > 0 {
+            text.push_str(" /")?;
+        }
+        if let Some(game) = games.game(i) {
+            show_game(&mut text, game)?;
+        }
+    }
+    Ok(text)
+}
+
+fn shown(rt: &impl AllocGlobal, read: &Result<PgnGames, PgnFault>) -> Result<String, AllocError> {
+    match read {
+        Ok(games) => show_games(rt, games),
+        Err(fault) => format!(in rt.alloc(); "0: {fault}"),
+    }
+}
+
+fn check_row<R: Abort + AllocGlobal>(rt: &R, row: &str) {
+    let (name, rest) = row.split_once(' ').expect(rt, row);
+    let (text, wanted) = rest.split_once(" -> ").expect(rt, row);
+    let letters = letters_of(name).expect(rt, row);
+    let bytes = bytes_of(rt, text);
+    let read = read_pgn(rt.alloc(), bytes.as_slice(), letters);
+    let shown = match shown(rt, &read) {
+        Ok(shown) => shown,
+        Err(_) => panic!(rt; "memory"),
+    };
+    assert_eq!(rt; shown.as_str(), wanted);
+}
+
+#[test]
+fn texts_are_read(rt: HostRuntime) {
+    for row in TEXTS.lines() {
+        check_row(&rt, row);
+    }
+}
