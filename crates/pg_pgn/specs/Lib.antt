@@ -2,3 +2,5 @@ pub mod Letters
 pub mod Tokens
 pub mod Places
 pub mod Pgn
+pub mod Steps
+pub mod Writing

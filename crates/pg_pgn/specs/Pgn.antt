@@ -52,12 +52,15 @@ is_idle text =
 abbrev pub word_sign : List ℕ → Sign
 word_sign text = if is_result text then Result else (if is_idle text then Nothing else Moves)
 
--- a tag pair `FEN`, or `SetUp` with the value 1, sets up a position
+-- a tag pair `SetUp` says by its value whether a position is set up
+abbrev pub set_up_sign : List ℕ → Sign
+set_up_sign token = if bytes_eq (take 3 (tag_value token)) (codes "\"1\"") then SetUp else Heads
+
+-- a tag pair `FEN` gives that position
 abbrev pub tag_sign : List ℕ → Sign
 tag_sign token =
     if bytes_eq (tag_name token) (codes "FEN") then Fen
-    else (if bytes_eq (tag_name token) (codes "SetUp") then (if bytes_eq (take 3 (tag_value token)) (codes "\"1\"") then SetUp else Heads)
-    else Heads)
+    else (if bytes_eq (tag_name token) (codes "SetUp") then set_up_sign token else Heads)
 
 abbrev pub sign_by : TokenKind → Letters → List ℕ → Sign
 sign_by Gap letters token = Nothing
@@ -78,7 +81,7 @@ sign_of letters (b ∷ more) = sign_by (kind_of b) letters (b ∷ more)
 -- ---- reading
 -- what a reader knows at a place in a text: the games that have ended; the moves of the game at hand, where they lead,
 -- and whether it has a tag pair; and how many variations are open
-pub record At : Type 0 where
+pub record Reader : Type 0 where
   pub games : List (List Move)
   pub moves : List Move
   pub here : State
@@ -86,25 +89,28 @@ pub record At : Type 0 where
   pub depth : ℕ
 
 -- behind these games, at the front of the next, which has a tag pair or none yet
-abbrev pub at_game : List (List Move) → Bool → At
+abbrev pub at_game : List (List Move) → Bool → Reader
 at_game games headed = record { games = games; moves = []; here = array_state; headed = headed; depth = 0 }
 
 -- the game at hand ends
-abbrev pub ended : At → List (List Move)
+abbrev pub ended : Reader → List (List Move)
 ended r = r.games ++ r.moves ∷ []
 
--- a tag pair behind a move begins the next game
-abbrev pub head : At → At
-head r = if length r.moves == 0 then at_game r.games true else at_game (ended r) true
+-- a tag pair is of the game at hand; behind a move it begins the next
+abbrev pub at_head : Reader → Reader
+at_head r = record { games = r.games; moves = r.moves; here = r.here; headed = true; depth = r.depth }
 
-abbrev pub at_depth : At → ℕ → At
+abbrev pub head : Reader → Reader
+head r = if length r.moves == 0 then at_head r else at_game (ended r) true
+
+abbrev pub at_depth : Reader → ℕ → Reader
 at_depth r depth = record { games = r.games; moves = r.moves; here = r.here; headed = r.headed; depth = depth }
 
-abbrev pub moved : At → Move → State → At
+abbrev pub moved : Reader → Move → State → Reader
 moved r m next = record { games = r.games; moves = r.moves ++ m ∷ []; here = next; headed = r.headed; depth = r.depth }
 
 -- what the reader knows behind a token that says this, in this text: the words of variations are passed over
-unfoldable pub Goes : Sign → At → List ℕ → At → Type 0
+unfoldable pub Goes : Sign → Reader → List ℕ → Reader → Type 0
 Goes Nothing r text s = s ≡ r
 Goes Opening r text s = s ≡ at_depth r (r.depth + 1)
 Goes Closing r text s = (0 < r.depth) × (s ≡ at_depth r (r.depth - 1))
@@ -117,24 +123,24 @@ Goes Moves r text s =
     ⊎ ((r.depth ≡ 0) × ((m : Move) × (next : State) × IsReading r.here text (Ok m) × Legal r.here m next × (s ≡ moved r m next)))
 
 -- the tokens lead a reader from here to there
-unfoldable pub Lead : Letters → At → List (List ℕ) → At → Type 0
+unfoldable pub Lead : Letters → Reader → List (List ℕ) → Reader → Type 0
 Lead letters r [] s = s ≡ r
 Lead letters r (token ∷ tokens) s =
-    (next : At) × Goes (sign_of letters token) r (said letters token) next × Lead letters next tokens s
+    (next : Reader) × Goes (sign_of letters token) r (said letters token) next × Lead letters next tokens s
 
 -- at the end of a text: the games, with the one at hand, if it has a tag pair or a move
-abbrev pub all_games : At → List (List Move)
+abbrev pub all_games : Reader → List (List Move)
 all_games r = if r.headed || nat_lt 0 (length r.moves) then ended r else r.games
 
 -- the tokens at the front of a text lead a reader here, and the rest stands behind them
-pub record IsRead (letters : Letters) (text : List ℕ) (r : At) (rest : List ℕ) : Type 0 where
+pub record IsRead (letters : Letters) (text : List ℕ) (r : Reader) (rest : List ℕ) : Type 0 where
   pub tokens : List (List ℕ)
   pub cut : AreTokens (body text) tokens rest
   pub leads : Lead letters (at_game [] false) tokens r
 
 -- the games of a text: all its tokens lead to them, and no variation is open at the end
 unfoldable pub IsFile : Letters → List ℕ → List (List Move) → Type 0
-IsFile letters text games = (r : At) × IsRead letters text r [] × (r.depth ≡ 0) × (games ≡ all_games r)
+IsFile letters text games = (r : Reader) × IsRead letters text r [] × (r.depth ≡ 0) × (games ≡ all_games r)
 
 -- ---- faults
 -- the line and the column at which the rest of a text begins
@@ -144,7 +150,7 @@ IsPlace text rest line column =
 
 -- a token that says this, or the end of the text, is at fault: a tag pair in a variation, or one that sets up a position;
 -- a `)` where no variation is open
-abbrev pub IsSignFault : Sign → At → FormFault → Type 0
+abbrev pub IsSignFault : Sign → Reader → FormFault → Type 0
 IsSignFault Heads r f = (0 < r.depth) × (f ≡ Fault.Variation)
 IsSignFault Fen r f = ((0 < r.depth) × (f ≡ Fault.Variation)) ⊎ ((r.depth ≡ 0) × (f ≡ Fault.Fen))
 IsSignFault SetUp r f = ((0 < r.depth) × (f ≡ Fault.Variation)) ⊎ ((r.depth ≡ 0) × (f ≡ Fault.SetUp))
@@ -152,21 +158,21 @@ IsSignFault Closing r f = (r.depth ≡ 0) × (f ≡ Fault.Closing)
 IsSignFault sign r f = ⊥
 
 -- what is wrong where the rest of a text begins
-unfoldable pub IsFormFault : Letters → At → List ℕ → FormFault → Type 0
+unfoldable pub IsFormFault : Letters → Reader → List ℕ → FormFault → Type 0
 IsFormFault letters r rest f =
     ((rest ≡ []) × (0 < r.depth) × (f ≡ Fault.Variation))
     ⊎ (((IsUnclosed rest Comment × (f ≡ Fault.Comment)) ⊎ (IsUnclosed rest Tag × (f ≡ Fault.Tag)))
     ⊎ ((token : List ℕ) × (left : List ℕ) × StartsWith rest token left × IsSignFault (sign_of letters token) r f))
 
 -- a word of the main line is not read as a move, for this cause
-unfoldable pub IsWordFault : Letters → At → List ℕ → SanFault → Type 0
+unfoldable pub IsWordFault : Letters → Reader → List ℕ → SanFault → Type 0
 IsWordFault letters r rest cause =
     (token : List ℕ) × (left : List ℕ) × StartsWith rest token left × (sign_of letters token ≡ Moves) × (r.depth ≡ 0)
     × IsReading r.here (said letters token) (Err cause)
 
 -- the first fault of a text, with its place, and the number of the game and of the ply, counted from 1; want of memory
 -- may come anywhere
-abbrev pub IsFaultAt : Letters → List ℕ → At → List ℕ → PgnFault → Type 0
+abbrev pub IsFaultAt : Letters → List ℕ → Reader → List ℕ → PgnFault → Type 0
 IsFaultAt letters text r rest Memory = Unit {0}
 IsFaultAt letters text r rest (At line column game ply word cause) =
     IsPlace text rest line column × (game ≡ length r.games + 1) × (ply ≡ length r.moves + 1)
@@ -175,4 +181,4 @@ IsFaultAt letters text r rest (Form line column game fault) =
     IsPlace text rest line column × (game ≡ length r.games + 1) × IsFormFault letters r rest fault
 
 unfoldable pub IsFirstFault : Letters → List ℕ → PgnFault → Type 0
-IsFirstFault letters text fault = (r : At) × (rest : List ℕ) × IsRead letters text r rest × IsFaultAt letters text r rest fault
+IsFirstFault letters text fault = (r : Reader) × (rest : List ℕ) × IsRead letters text r rest × IsFaultAt letters text r rest fault

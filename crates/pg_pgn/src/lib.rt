@@ -12,9 +12,11 @@ mod signs;
 mod tags;
 mod tokens;
 mod words;
+mod writing;
 
 pub use fault::{FormFault, PgnFault};
 pub use games::PgnGames;
 pub use languages::{fitting, letters_of, name_of};
 pub use letters::Letters;
 pub use reading::read_pgn;
+pub use writing::{write_game, write_pgn};

@@ -1,6 +1,7 @@
 //! Lines and columns.
-ghost use Rattle.std.specs.Prelude.{◌≡◌, ◌≤◌, ◌×◌, length};
-ghost use Rattle.pg_pgn.specs.Places.{begins_feed, ends_line, goes_on, line_from, column_from};
+ghost use Rattle.std.specs.Prelude.{◌≡◌, ◌+◌, ◌<◌, ◌≤◌, length};
+ghost use Rattle.pg_pgn.specs.Places.{begins_feed, ends_line, goes_on, next_line, next_column, line_from, column_from};
+ghost use Rattle.pg_pgn.specs.Tokens.{without_mark};
 ghost use Rattle.pg_pgn.specs.Pgn.{IsPlace};
 
 use crate::tokens::without_mark;
@@ -30,24 +31,38 @@ fn goes_on(byte: u8) -> bool
     byte >= 128 && byte < 192
 }
 
+// The line that is reached behind a byte in a line, before these.
+fn next_line(line: usize, byte: u8, more: &[u8]) -> usize
+    requires { line < 18446744073709551615 }
+    ensures value { result ≡ next_line line byte more.now }
+    ensures small { result ≤ line + 1 }
+{
+    if ends_line(byte, more) {
+        line + 1
+    } else {
+        line
+    }
+}
+
 // The line that is reached behind a text.
 fn line_behind(text: &[u8]) -> usize
-    requires { length text.now < 18446744073709551615 }
     ensures { result ≡ line_from 1 text.now }
 {
     let mut line = 1;
     let mut rest = text;
     while let Some((byte, more)) = rest.split_first() {
-        if ends_line(*byte, more) {
-            line += 1;
-        }
+        line = next_line(line, *byte, more);
         rest = more;
     }
     line
 }
 
 // The column that is reached from a column on behind a byte, before these.
-fn next_column(column: usize, byte: u8, more: &[u8]) -> usize {
+fn next_column(column: usize, byte: u8, more: &[u8]) -> usize
+    requires { column < 18446744073709551615 }
+    ensures value { result ≡ next_column column byte more.now }
+    ensures small { result ≤ column + 1 }
+{
     if ends_line(byte, more) {
         1
     } else if goes_on(byte) {
@@ -59,6 +74,7 @@ fn next_column(column: usize, byte: u8, more: &[u8]) -> usize {
 
 // The column that is reached behind a text.
 fn column_behind(text: &[u8]) -> usize
+    ensures { result ≡ column_from 1 text.now }
 {
     let mut column = 1;
     let mut rest = text;
@@ -71,6 +87,8 @@ fn column_behind(text: &[u8]) -> usize
 
 /// The place in a text where its rest begins.
 pub(crate) fn place_of(text: &[u8], rest: &[u8]) -> Place
+    requires { length rest.now ≤ length (without_mark text.now) }
+    ensures { IsPlace text.now rest.now result.line result.column }
 {
     let text = without_mark(text);
     let before = &text[..text.len() - rest.len()];

@@ -2,7 +2,8 @@
 ghost use Rattle.std.specs.Prelude.{◌≡◌, ◌≤◌, length};
 ghost use Rattle.std.specs.List.{prefix_len};
 ghost use Rattle.pg_pgn.specs.Tokens.{is_blank, is_name_byte, past_blanks, tag_front, tag_name, tag_value};
-ghost use Rattle.pg_pgn.specs.Pgn.{tag_sign};
+ghost use Rattle.pg_pgn.specs.Pgn.{set_up_sign, tag_sign};
+ghost use Rattle.pg_pgn.specs.Steps.{IsOfTag};
 
 use crate::signs::Sign;
 use crate::tokens::is_blank;
@@ -63,7 +64,10 @@ fn tag_value(token: &[u8]) -> &[u8]
 }
 
 // What a tag pair `SetUp` says by its value.
-fn set_up_sign(token: &[u8]) -> Sign {
+fn set_up_sign(token: &[u8]) -> Sign
+    ensures value { result ≡ set_up_sign token.now }
+    ensures kind { IsOfTag result }
+{
     match tag_value(token) {
         [b'"', b'1', b'"', ..] => Sign::SetUp,
         _ => Sign::Heads,
@@ -72,7 +76,8 @@ fn set_up_sign(token: &[u8]) -> Sign {
 
 /// What a tag pair says.
 pub(crate) fn tag_sign(token: &[u8]) -> Sign
-    ensures { result ≡ tag_sign token.now }
+    ensures value { result ≡ tag_sign token.now }
+    ensures kind { IsOfTag result }
 {
     match tag_name(token) {
         b"FEN" => Sign::Fen,

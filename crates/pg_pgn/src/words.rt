@@ -3,6 +3,7 @@ ghost use Rattle.std.specs.Prelude.{◌≡◌, ◌≤◌, length, OnOk, IsUtf8};
 ghost use Rattle.std.specs.List.{prefix_len};
 ghost use Rattle.pg_san.specs.GameText.{digits_len, dots_len, is_dot};
 ghost use Rattle.pg_pgn.specs.Pgn.{without_number, said, is_result, is_mark, is_idle, word_sign};
+ghost use Rattle.pg_pgn.specs.Steps.{IsOfWord};
 
 use crate::letters::{Letters, write_english};
 use crate::signs::Sign;
@@ -75,7 +76,8 @@ fn is_idle(text: &[u8]) -> bool
 
 /// What a word says.
 pub(crate) fn word_sign(text: &[u8]) -> Sign
-    ensures { result ≡ word_sign text.now }
+    ensures value { result ≡ word_sign text.now }
+    ensures kind { IsOfWord result }
 {
     if is_result(text) {
         Sign::Result

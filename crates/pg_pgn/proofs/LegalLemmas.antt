@@ -1,0 +1,64 @@
+-- Games that are read are legal from the initial array.
+use Rattle.std.proofs.Common.{◌≡◌, ℕ, ◌+◌, ◌-◌, ◌<◌, ◌≤◌, inl, inr, Bool, true, false, List, [], ◌∷◌, ◌++◌, length, refl, sym, ap, subst, ◌∙◌, arith}
+use Rattle.std.specs.Prelude.{All, if◌then◌else◌, ◌==◌, ◌||◌, nat_lt}
+use Rattle.std.proofs.lemmas.List.Elements.{All-push}
+use Rattle.pg_position.specs.declared.state.State.{State}
+use Rattle.pg_position.specs.declared.moves.Move.{Move}
+use Rattle.pg_position.specs.Array.{array_state}
+use Rattle.pg_position.specs.Game.{IsGame}
+use Rattle.pg_position.specs.Step.{Legal}
+use Rattle.pg_san.specs.Games.{IsFromArray}
+use Rattle.pg_pgn.specs.declared.letters.Letters.{Letters}
+use Rattle.pg_pgn.specs.declared.signs.Sign.{Sign}
+use Rattle.pg_pgn.specs.declared.signs.Sign.TheVariants.{Nothing, Heads, Fen, SetUp, Opening, Closing, Result, Moves}
+use Rattle.pg_pgn.specs.Pgn.{Reader, at_game, at_depth, at_head, ended, head, moved, sign_of, said, Goes, Lead, IsRead, all_games}
+use Rattle.pg_pgn.specs.Steps.{AreLegal}
+
+none_legal : AreLegal (at_game [] false)
+none_legal = record { games = λ k d low. absurd (omega (arith, low)); moves = refl }
+
+ended_legal : (r : Reader) → AreLegal r → All IsFromArray (ended r)
+unfolding IsFromArray
+ended_legal r l = All-push IsFromArray r.games r.moves l.games (r.here, l.moves)
+
+at_game_legal : (games : List (List Move)) (headed : Bool) → All IsFromArray games → AreLegal (at_game games headed)
+at_game_legal games headed all = record { games = all; moves = refl }
+
+game_more : (p q r : State) (ms : List Move) (m : Move) → IsGame p ms q → Legal q m r → IsGame p (ms ++ m ∷ []) r
+game_more p q r [] m game legal = (r, subst (λ (x : State). Legal x m r) (sym game) legal, refl)
+game_more p q r (x ∷ xs) m game legal = (game.0, game.1, game_more game.0 q r xs m game.2 legal)
+
+head_by : (none : Bool) (r : Reader) → AreLegal r → AreLegal (if none then at_head r else at_game (ended r) true)
+head_by true r l = record { games = l.games; moves = l.moves }
+head_by false r l = at_game_legal (ended r) true (ended_legal r l)
+
+head_legal : (r : Reader) → AreLegal r → AreLegal (head r)
+head_legal r l = head_by (length r.moves == 0) r l
+
+all_by : (some : Bool) (r : Reader) → AreLegal r → All IsFromArray (if some then ended r else r.games)
+all_by true r l = ended_legal r l
+all_by false r l = l.games
+
+pub all_legal : (r : Reader) → AreLegal r → All IsFromArray (all_games r)
+all_legal r l = all_by (r.headed || nat_lt 0 (length r.moves)) r l
+
+goes_legal : (sign : Sign) (r s : Reader) (text : List ℕ) → AreLegal r → Goes sign r text s → AreLegal s
+unfolding Goes
+goes_legal Nothing r s text l goes = subst AreLegal (sym goes) l
+goes_legal Opening r s text l goes = subst AreLegal (sym goes) (record { games = l.games; moves = l.moves })
+goes_legal Closing r s text l goes = subst AreLegal (sym goes.1) (record { games = l.games; moves = l.moves })
+goes_legal Heads r s text l goes = subst AreLegal (sym goes.1) (head_legal r l)
+goes_legal Fen r s text l goes = absurd goes
+goes_legal SetUp r s text l goes = absurd goes
+goes_legal Result r s text l (inl (deep, e)) = subst AreLegal (sym e) l
+goes_legal Result r s text l (inr (depth, e)) = subst AreLegal (sym e) (at_game_legal (ended r) false (ended_legal r l))
+goes_legal Moves r s text l (inl (deep, e)) = subst AreLegal (sym e) l
+goes_legal Moves r s text l (inr (depth, m, next, reads, legal, e)) = subst AreLegal (sym e) (record { games = l.games; moves = game_more array_state r.here next r.moves m l.moves legal })
+
+leads_legal : (letters : Letters) (r : Reader) (tokens : List (List ℕ)) (s : Reader) → AreLegal r → Lead letters r tokens s → AreLegal s
+unfolding Lead
+leads_legal letters r [] s l e = subst AreLegal (sym e) l
+leads_legal letters r (t ∷ ts) s l leads = leads_legal letters leads.0 ts s (goes_legal (sign_of letters t) r leads.0 (said letters t) l leads.1) leads.2
+
+pub read_legal : (letters : Letters) (text : List ℕ) (r : Reader) (rest : List ℕ) → IsRead letters text r rest → AreLegal r
+read_legal letters text r rest read = leads_legal letters (at_game [] false) read.tokens r none_legal read.leads
