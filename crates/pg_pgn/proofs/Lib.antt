@@ -1,3 +1,4 @@
 pub mod ReadingLemmas
 pub mod FaultLemmas
 pub mod LegalLemmas
+pub mod KnownLemmas

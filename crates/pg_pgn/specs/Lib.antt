@@ -4,3 +4,4 @@ pub mod Places
 pub mod Pgn
 pub mod Steps
 pub mod Writing
+pub mod KnownReadings

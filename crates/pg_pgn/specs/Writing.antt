@@ -1,7 +1,9 @@
 -- Games as they are written in PGN (the export format of the PGN standard, section 8): the seven tags of which nothing is
 -- known, an empty line, and the movetext in lines below 80 columns.
-use Rattle.std.specs.Prelude.{◌≡◌, ℕ, ◌+◌, ◌/◌, ◌%◌, ◌==◌, nat_lt, List, [], ◌∷◌, ◌++◌, length, codes, if◌then◌else◌}
+use Rattle.std.specs.Prelude.{◌≡◌, ℕ, ◌+◌, ◌/◌, ◌%◌, ◌==◌, nat_lt, List, [], ◌∷◌, ◌++◌, Option, length, take, codes, if◌then◌else◌}
 use Rattle.std.specs.Fmt.{decimal}
+use Rattle.std.specs.Io.KnownBytes.{Appends}
+use Rattle.pg_certificate.specs.Pushing.{AddsSome}
 use Rattle.pg_position.specs.declared.state.State.{State}
 use Rattle.pg_position.specs.declared.moves.Move.{Move}
 use Rattle.pg_position.specs.Step.{Legal}
@@ -51,9 +53,29 @@ IsGameText game text =
     (k : ℕ) × (q : State) × (moves : List ℕ) × AreMoves 0 0 array_state game k q moves
     × (text ≡ tags ++ (moves ++ (spaced k (codes "*") ++ codes "\n")))
 
+-- the texts of further games, an empty line before each
+unfoldable pub AreFurther : List (List Move) → List ℕ → Type 0
+AreFurther [] text = text ≡ []
+AreFurther (g ∷ gs) text =
+    (own : List ℕ) × (rest : List ℕ) × IsGameText g own × AreFurther gs rest × (text ≡ codes "\n" ++ (own ++ rest))
+
 -- the text of games: an empty line stands between two
 unfoldable pub IsPgnText : List (List Move) → List ℕ → Type 0
 IsPgnText [] text = text ≡ []
-IsPgnText (g ∷ []) text = IsGameText g text
-IsPgnText (g ∷ h ∷ gs) text =
-    (first : List ℕ) × (rest : List ℕ) × IsGameText g first × IsPgnText (h ∷ gs) rest × (text ≡ first ++ (codes "\n" ++ rest))
+IsPgnText (g ∷ gs) text =
+    (own : List ℕ) × (rest : List ℕ) × IsGameText g own × AreFurther gs rest × (text ≡ own ++ rest)
+
+-- ---- what a sink holds more
+-- a move is appended behind n columns, with its number, where it has one; k columns are behind it
+abbrev pub AddsPly : ℕ → ℕ → State → Move → ℕ → Option (List ℕ) → Option (List ℕ) → Type 0
+AddsPly n ply p m k old new =
+    (san : List ℕ) × IsSan p m san × (k ≡ columns (number_columns n ply) (length san))
+    × Appends old new (number_text n ply ++ spaced (number_columns n ply) san)
+
+-- the first moves of a game, as many as this, are appended, and lead to p; k columns are behind them
+abbrev pub AddsMoves : List Move → ℕ → ℕ → State → Option (List ℕ) → Option (List ℕ) → Type 0
+AddsMoves game count k p old new = AddsSome (AreMoves 0 0 array_state (take count game) k p) old new
+
+-- all moves of a game are appended; k columns are behind them
+abbrev pub AddsAllMoves : List Move → ℕ → Option (List ℕ) → Option (List ℕ) → Type 0
+AddsAllMoves game k old new = (p : State) × AddsSome (AreMoves 0 0 array_state game k p) old new

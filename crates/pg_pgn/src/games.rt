@@ -1,5 +1,6 @@
 //! The games of a file.
-ghost use Rattle.std.specs.Prelude.{◌≡◌, ◌≤◌, length, map, Some, MatchOption, slice_get};
+ghost use Rattle.std.specs.Prelude.{◌≡◌, ◌≤◌, length, Some, IfSome, MatchOption, slice_get};
+ghost use Rattle.pg_san.specs.Games.{IsFromArray};
 
 use pg_position::Move;
 use std::marker::Model;
@@ -33,7 +34,8 @@ impl PgnGames {
 
     /// The game with this index, counted from 0; none from `len` on.
     pub fn game(&self, i: usize) -> Option<&[Move]>
-        ensures { MatchOption result (length self.now ≤ i) (λ g. slice_get self.now i ≡ Some g.now) }
+        ensures game { MatchOption result (length self.now ≤ i) (λ g. slice_get self.now i ≡ Some g.now) }
+        ensures legal { IfSome result (λ g. IsFromArray g.now) }
     {
         match self.games.get(i) {
             Some(game) => Some(game.as_slice()),

@@ -4,8 +4,10 @@
 
 mod fault;
 mod games;
+mod known;
 mod languages;
 mod letters;
+mod numbers;
 mod places;
 mod reading;
 mod signs;

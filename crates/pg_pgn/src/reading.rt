@@ -1,14 +1,16 @@
 //! Reading a file of games.
-ghost use Rattle.std.specs.Prelude.{◌≡◌, ℕ, ◌<◌, ◌≤◌, List, [], length, OnOk, IfOk, IfErr, false};
+ghost use Rattle.std.specs.Prelude.{◌≡◌, ℕ, ◌<◌, ◌≤◌, List, [], length, OnOk, IfOk, IfErr, All, false};
 ghost use Rattle.pg_pgn.specs.Tokens.{StartsWith, without_mark};
 ghost use Rattle.pg_pgn.specs.declared.fault.PgnFault.TheVariants as PgnFault;
 ghost use Rattle.pg_pgn.specs.declared.signs.Sign.TheVariants as Sign;
 ghost use Rattle.pg_pgn.specs.declared.reading.Cause.TheVariants as Cause;
-ghost use Rattle.pg_pgn.specs.Pgn.{said, sign_of, tag_sign, word_sign, Goes, at_game, ended, head, all_games, IsFile, IsFirstFault};
+ghost use Rattle.pg_pgn.specs.Pgn.{said, sign_of, tag_sign, word_sign, Goes, at_game, ended, head, moved, all_games, IsFile, IsFirstFault};
+ghost use Rattle.pg_pgn.specs.KnownReadings.{IsKnown};
 ghost use Rattle.pg_pgn.specs.Steps.{at, AreLegal, IsCause, IsOfTag, IsOpen, Tells};
 
 use crate::fault::{FormFault, PgnFault};
 use crate::games::PgnGames;
+use crate::known::{Known, read_known, room};
 use crate::letters::Letters;
 use crate::places::place_of;
 use crate::signs::Sign;
@@ -16,7 +18,7 @@ use crate::tags::tag_sign;
 use crate::tokens::{TokenKind, body, kind_of, more_len};
 use crate::words::{shown, word_sign, write_said};
 use pg_position::{Move, Position};
-use pg_san::{SanFault, read};
+use pg_san::SanFault;
 use std::alloc::{AllocError, Global};
 use std::mem;
 
@@ -115,36 +117,50 @@ fn step_closing(reading: &mut Reading) -> Result<(), Cause>
     Ok(())
 }
 
+// Keeps a move that leads to this position.
+fn keep(reading: &mut Reading, m: Move, next: Position) -> Result<(), Cause>
+    ensures ok { OnOk result (at reading.new ≡ moved (at reading.old) m next) }
+    ensures err { IfErr result (λ e. e ≡ Cause.NoMemory) }
+{
+    match reading.moves.push(m) {
+        Ok(()) => {
+            reading.here = next;
+            Ok(())
+        }
+        Err(_) => Err(Cause::NoMemory),
+    }
+}
+
 // Goes on behind a move of the main line.
-fn step_move(reading: &mut Reading, text: &str) -> Result<(), Cause>
-    requires { reading.old.depth ≡ 0 }
+fn step_move(reading: &mut Reading, known: &mut [Known], text: &str) -> Result<(), Cause>
+    requires depth { reading.old.depth ≡ 0 }
+    requires known { All IsKnown known.old }
+    ensures known { All IsKnown known.new }
     ensures ok { OnOk result (Goes Sign.Moves (at reading.old) text.now (at reading.new)) }
     ensures err { IfErr result (IsCause Sign.Moves (at reading.old) text.now) }
 {
-    let m = match read(&reading.here, text) {
-        Ok(m) => m,
-        Err(cause) => return Err(Cause::Word(cause)),
-    };
-    if reading.moves.push(m).is_err() {
-        return Err(Cause::NoMemory);
+    let mut here = reading.here;
+    match read_known(known, &mut here, text) {
+        Ok(m) => keep(reading, m, here),
+        Err(cause) => Err(Cause::Word(cause)),
     }
-    let next = reading.here.after(&m);
-    reading.here = next;
-    Ok(())
 }
 
 // Goes on behind a word of the main line, which says this.
 fn step_said(
     alloc: Global,
     reading: &mut Reading,
+    known: &mut [Known],
     text: &str,
 ) -> Result<(), Cause>
-    requires { reading.old.depth ≡ 0 }
+    requires depth { reading.old.depth ≡ 0 }
+    requires known { All IsKnown known.old }
+    ensures known { All IsKnown known.new }
     ensures ok { OnOk result (Goes (word_sign text.now) (at reading.old) text.now (at reading.new)) }
     ensures err { IfErr result (IsCause (word_sign text.now) (at reading.old) text.now) }
 {
     match word_sign(text.as_bytes()) {
-        Sign::Moves => step_move(reading, text),
+        Sign::Moves => step_move(reading, known, text),
         Sign::Result => step_result(alloc, reading),
         _ => Ok(()),
     }
@@ -154,10 +170,13 @@ fn step_said(
 fn step_word(
     alloc: Global,
     reading: &mut Reading,
+    known: &mut [Known],
     letters: Letters,
     token: &[u8],
     text: &mut String,
 ) -> Result<(), Cause>
+    requires { All IsKnown known.old }
+    ensures known { All IsKnown known.new }
     ensures ok { OnOk result (Goes (word_sign (said letters token.now)) (at reading.old) (said letters token.now)
         (at reading.new)) }
     ensures err { IfErr result (IsCause (word_sign (said letters token.now)) (at reading.old) (said letters token.now)) }
@@ -168,18 +187,21 @@ fn step_word(
     if write_said(text, letters, token).is_err() {
         return Err(Cause::NoMemory);
     }
-    step_said(alloc, reading, text.as_str())
+    step_said(alloc, reading, known, text.as_str())
 }
 
 // Goes on behind a token.
 fn step(
     alloc: Global,
     reading: &mut Reading,
+    known: &mut [Known],
     letters: Letters,
     token: &[u8],
     text: &mut String,
 ) -> Result<(), Cause>
-    requires { reading.old.depth < 18446744073709551615 }
+    requires depth { reading.old.depth < 18446744073709551615 }
+    requires known { All IsKnown known.old }
+    ensures known { All IsKnown known.new }
     ensures ok { OnOk result (Goes (sign_of letters token.now) (at reading.old) (said letters token.now) (at reading.new)) }
     ensures err { IfErr result (IsCause (sign_of letters token.now) (at reading.old) (said letters token.now)) }
 {
@@ -188,7 +210,7 @@ fn step(
         None => TokenKind::Gap,
     };
     match kind {
-        TokenKind::Word => step_word(alloc, reading, letters, token, text),
+        TokenKind::Word => step_word(alloc, reading, known, letters, token, text),
         TokenKind::Tag => step_tag(alloc, reading, tag_sign(token)),
         TokenKind::Opens => {
             reading.depth += 1;
@@ -313,6 +335,7 @@ pub fn read_pgn(alloc: Global, text: &[u8], letters: Letters) -> Result<PgnGames
 {
     let mut reading = begun(alloc);
     let mut word = String::new(alloc);
+    let mut known = room(alloc, text.len());
     let mut rest = body(text);
     while !rest.is_empty() {
         let game = reading.games.len() + 1;
@@ -321,7 +344,7 @@ pub fn read_pgn(alloc: Global, text: &[u8], letters: Letters) -> Result<PgnGames
             Ok(cut) => cut,
             Err(fault) => return Err(form_fault(text, rest, game, fault)),
         };
-        match step(alloc, &mut reading, letters, token, &mut word) {
+        match step(alloc, &mut reading, known.as_mut_slice(), letters, token, &mut word) {
             Ok(()) => {}
             Err(cause) => return Err(fault_of(text, rest, game, ply, token, cause)),
         }

@@ -1,19 +1,23 @@
 //! Writing games.
-ghost use Rattle.std.specs.Prelude.{◌≡◌, ◌+◌, ◌<◌, ◌≤◌, ◌++◌, length, codes, IfOk, IfErr, OnErr, true};
+ghost use Rattle.std.specs.Prelude.{◌≡◌, ◌+◌, ◌<◌, ◌≤◌, ◌++◌, length, drop, IfOk, IfErr, OnOk, OnErr, true, false};
 ghost use Rattle.pg_certificate.specs.Pushing.{Adds, AddsSome, MayPush, Pushes};
+ghost use Rattle.pg_position.specs.Step.{Legal};
 ghost use Rattle.pg_san.specs.Games.{IsFromArray};
-ghost use Rattle.pg_pgn.specs.Writing.{gap, columns};
+ghost use Rattle.pg_pgn.specs.Writing.{gap, columns, spaced, number, number_text, number_columns, IsGameText};
+ghost use Rattle.pg_pgn.specs.Writing.{AreFurther, IsPgnText, AddsPly, AddsAllMoves};
 
 use crate::games::PgnGames;
+use arrayvec::ArrayString;
 use pg_certificate::{Refused, Sink, WriteFault};
-use pg_fen::text::digits;
+use pg_fen::text::{digits, put};
 use pg_position::{Move, Position};
 use pg_san::write_with;
 
 // A line has fewer columns.
 const WIDTH: usize = 80;
 
-const TAGS: &str = "[Event \"?\"]\n[Site \"?\"]\n[Date \"????.??.??\"]\n[Round \"?\"]\n[White \"?\"]\n[Black \"?\"]\n[Result \"*\"]\n\n";
+const TAGS: &str =
+    "[Event \"?\"]\n[Site \"?\"]\n[Date \"????.??.??\"]\n[Round \"?\"]\n[White \"?\"]\n[Black \"?\"]\n[Result \"*\"]\n\n";
 
 // What stands before a word of this length behind n columns of a line.
 fn gap(n: usize, long: usize) -> &'static [u8]
@@ -44,57 +48,116 @@ fn columns(n: usize, long: usize) -> usize
     }
 }
 
-// Writes a word behind n columns of a line.
-fn write_word<W: Sink>(n: usize, word: &[u8], out: &mut W) -> Result<usize, Refused> {
+// Writes a word behind n columns of a line; how many columns are behind it.
+fn write_word<W: Sink>(n: usize, word: &[u8], out: &mut W) -> Result<usize, Refused>
+    requires { n + length word.now < 18446744073709551615 }
+    ensures push { Pushes W.held W.has_failed (Adds (spaced n word.now)) out.old out.new result }
+    ensures columns { IfOk result (λ k. k ≡ columns n (length word.now)) }
+    ensures small { IfOk result (λ k. k ≤ 80 + length word.now) }
+{
     out.push(gap(n, word.len()))?;
     out.push(word)?;
     Ok(columns(n, word.len()))
 }
 
-// Writes the number before a move of White's, behind n columns of a line.
-fn write_number<W: Sink>(n: usize, ply: usize, out: &mut W) -> Result<usize, Refused> {
+// The number before a move of White's.
+fn number(ply: usize) -> ArrayString<21>
+    ensures { result.bytes ≡ number ply }
+{
+    let mut text = ArrayString::new();
+    text.push_str(digits(ply / 2 + 1).as_str());
+    put(&mut text, b'.');
+    text
+}
+
+// Writes the number before a move of White's, behind n columns of a line; how many columns are behind it.
+fn write_number<W: Sink>(n: usize, ply: usize, out: &mut W) -> Result<usize, Refused>
+    requires { n ≤ 88 }
+    ensures push { MayPush W.held W.has_failed (Adds (number_text n ply)) out.old out.new result }
+    ensures columns { IfOk result (λ k. k ≡ number_columns n ply) }
+    ensures small { IfOk result (λ k. k ≤ 101) }
+{
     if ply % 2 != 0 {
         return Ok(n);
     }
-    let digits = digits(ply / 2 + 1);
-    let long = digits.len() + 1;
-    out.push(gap(n, long))?;
-    out.push(digits.as_bytes())?;
-    out.push(b".")?;
-    Ok(columns(n, long))
+    write_word(n, number(ply).as_bytes(), out)
 }
 
-// Writes the moves of a game, behind a line's front; the columns of the last line.
-fn write_moves<W: Sink>(game: &[Move], out: &mut W) -> Result<usize, Refused> {
+// Writes a legal move, the ply with this number from 0, behind n columns of a line; how many columns are behind it. It
+// leads to the position `next`.
+fn write_ply<W: Sink>(
+    n: usize,
+    ply: usize,
+    position: &Position,
+    m: &Move,
+    next: &Position,
+    out: &mut W,
+) -> Result<usize, Refused>
+    requires legal { Legal position.now m.now next.now }
+    requires small { n ≤ 88 }
+    ensures text { IfOk result (λ k. AddsPly n ply position.now m.now k (W.held out.old) (W.held out.new)) }
+    ensures runs { OnOk result (W.has_failed out.new ≡ false) }
+    ensures same { OnOk result (W.has_failed out.new ≡ W.has_failed out.old) }
+    ensures fault { OnErr result (W.has_failed out.new ≡ true) }
+    ensures small { IfOk result (λ k. k ≤ 88) }
+{
+    let san = write_with(position, *m, next);
+    let n = write_number(n, ply, out)?;
+    write_word(n, san.as_bytes(), out)
+}
+
+// Writes the moves of a game; how many columns are behind them.
+fn write_moves<W: Sink>(game: &[Move], out: &mut W) -> Result<usize, Refused>
+    requires { IsFromArray game.now }
+    ensures text { IfOk result (λ k. AddsAllMoves game.now k (W.held out.old) (W.held out.new)) }
+    ensures same { OnOk result (W.has_failed out.new ≡ W.has_failed out.old) }
+    ensures fault { OnErr result (W.has_failed out.new ≡ true) }
+    ensures small { IfOk result (λ k. k ≤ 88) }
+{
     let mut position = Position::array();
     let mut n = 0;
     for (ply, m) in game.iter().enumerate() {
         let next = position.after(m);
-        let san = write_with(&position, *m, &next);
-        n = write_number(n, ply, out)?;
-        n = write_word(n, san.as_bytes(), out)?;
+        n = write_ply(n, ply, &position, m, &next, out)?;
         position = next;
     }
     Ok(n)
 }
 
-fn append_game<W: Sink>(game: &[Move], out: &mut W) -> Result<(), Refused> {
+// Appends the text of a game.
+fn append_game<W: Sink>(game: &[Move], out: &mut W) -> Result<(), Refused>
+    requires { IsFromArray game.now }
+    ensures { Pushes W.held W.has_failed (AddsSome (IsGameText game.now)) out.old out.new result }
+{
     out.push(TAGS.as_bytes())?;
     let n = write_moves(game, out)?;
     write_word(n, b"*", out)?;
     out.push(b"\n")
 }
 
-fn append_games<W: Sink>(games: &PgnGames, out: &mut W) -> Result<(), Refused> {
-    for i in 0..games.len() {
-        if i > 0 {
-            out.push(b"\n")?;
-        }
+// Appends the games but the first.
+fn append_further<W: Sink>(games: &PgnGames, out: &mut W) -> Result<(), Refused>
+    ensures { MayPush W.held W.has_failed (AddsSome (AreFurther (drop 1 games.now))) out.old out.new result }
+{
+    for i in 1..games.len() {
         if let Some(game) = games.game(i) {
+            out.push(b"\n")?;
             append_game(game, out)?;
         }
     }
     Ok(())
+}
+
+fn append_games<W: Sink>(games: &PgnGames, out: &mut W) -> Result<(), Refused>
+    ensures { MayPush W.held W.has_failed (AddsSome (IsPgnText games.now)) out.old out.new result }
+{
+    match games.game(0) {
+        None => Ok(()),
+        Some(first) => {
+            append_game(first, out)?;
+            append_further(games, out)
+        }
+    }
 }
 
 /// Writes a game from the initial array: the seven tags of which nothing is known, an empty line, and the movetext in
@@ -102,7 +165,11 @@ fn append_games<W: Sink>(games: &PgnGames, out: &mut W) -> Result<(), Refused> {
 ///
 /// # Errors
 /// `Write` where the sink has failed.
-pub fn write_game<W: Sink>(game: &[Move], out: &mut W) -> Result<(), WriteFault> {
+pub fn write_game<W: Sink>(game: &[Move], out: &mut W) -> Result<(), WriteFault>
+    requires { IsFromArray game.now }
+    ensures push { Pushes W.held W.has_failed (AddsSome (IsGameText game.now)) out.old out.new result }
+    ensures fault { IfErr result (λ e. e ≡ WriteFault.Write) }
+{
     match append_game(game, out) {
         Ok(()) => Ok(()),
         Err(Refused) => Err(WriteFault::Write),
@@ -113,7 +180,10 @@ pub fn write_game<W: Sink>(game: &[Move], out: &mut W) -> Result<(), WriteFault>
 ///
 /// # Errors
 /// `Write` where the sink has failed.
-pub fn write_pgn<W: Sink>(games: &PgnGames, out: &mut W) -> Result<(), WriteFault> {
+pub fn write_pgn<W: Sink>(games: &PgnGames, out: &mut W) -> Result<(), WriteFault>
+    ensures push { MayPush W.held W.has_failed (AddsSome (IsPgnText games.now)) out.old out.new result }
+    ensures fault { IfErr result (λ e. e ≡ WriteFault.Write) }
+{
     match append_games(games, out) {
         Ok(()) => Ok(()),
         Err(Refused) => Err(WriteFault::Write),
