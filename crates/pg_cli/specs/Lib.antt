@@ -1,5 +1,6 @@
 pub mod Answers
 pub mod Asking
+pub mod Converting
 pub mod Ending
 pub mod Judging
 pub mod Knowing

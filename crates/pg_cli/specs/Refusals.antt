@@ -9,15 +9,22 @@ use Rattle.pg_report.specs.declared.fault.RunFault.TheVariants.{Check as CheckFa
 use Rattle.pg_report.specs.Statuses.{answer_status_of, status_of, search_status_of, show_status_of, moves_status_of, count_status_of, upgrade_status_of}
 use Rattle.pg_tariff_files.specs.declared.fault.CarriedFault.{CarriedFault}
 use Rattle.pg_tariff_files.specs.declared.fault.CarriedFault.TheVariants as carried
+use Rattle.pg_pgn.specs.declared.fault.PgnFault.{PgnFault}
+use Rattle.pg_pgn.specs.declared.fault.PgnFault.TheVariants as pgn
 use Rattle.pg_cli.specs.declared.refusals.Named.{Named}
 use Rattle.pg_cli.specs.declared.refusals.Refusal.{Refusal}
-use Rattle.pg_cli.specs.declared.refusals.Refusal.TheVariants.{Words, Minutes, Nodes, Bytes, OnTerminal, Open, NoName, Line, NoGame, NotUtf8, Read, Write, Memory, Show, Moves, Count, Search, Full, Late, GaveUp, Upgrade, Check, Answer, Tariffs}
+use Rattle.pg_cli.specs.declared.refusals.Refusal.TheVariants.{Words, Minutes, Nodes, Bytes, OnTerminal, Open, NoName, Line, NoGame, NotUtf8, Read, Write, Memory, Show, Moves, Count, Search, Full, Late, GaveUp, Upgrade, Check, Answer, Tariffs, Pgn, Letters}
 
 -- that of a file whose tariffs are not read
 abbrev pub tariffs_status : CarriedFault → ℕ
 tariffs_status carried.Read = 4
 tariffs_status carried.Memory = 3
 tariffs_status fault = 1
+
+-- that of bytes that are no games in PGN
+abbrev pub pgn_status : PgnFault → ℕ
+pgn_status pgn.Memory = 3
+pgn_status fault = 2
 
 -- 1 where a list or a certificate is refused or a search gave up,
 -- 2 for bad words and texts, 3 for want of memory, 4 for a file
@@ -46,6 +53,8 @@ refusal_status (Upgrade fault) = upgrade_status_of fault
 refusal_status (Check fault) = status_of fault
 refusal_status (Answer fault) = answer_status_of fault
 refusal_status (Tariffs fault) = tariffs_status fault
+refusal_status (Pgn fault) = pgn_status fault
+refusal_status Letters = 2
 
 -- the refusal that a fault of the file is which this word names
 abbrev pub file_refusal : FileFault → Named → Refusal

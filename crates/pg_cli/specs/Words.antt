@@ -15,10 +15,11 @@ use Rattle.pg_cli.specs.declared.commands.CertificateCommand.TheVariants.{Answer
 use Rattle.pg_cli.specs.declared.commands.Command.{Command}
 use Rattle.pg_cli.specs.declared.commands.Command.TheVariants.{OfProblem, Check, Search, OfCertificate, Other}
 use Rattle.pg_cli.specs.declared.commands.OtherCommand.{OtherCommand}
-use Rattle.pg_cli.specs.declared.commands.OtherCommand.TheVariants.{Show, Moves, Count, Solve, Judge, Upgrade}
+use Rattle.pg_cli.specs.declared.commands.OtherCommand.TheVariants.{Show, Moves, Count, Solve, Judge, Upgrade, Pgn, End}
 use Rattle.pg_cli.specs.declared.commands.ProblemCommand.{ProblemCommand}
 use Rattle.pg_cli.specs.declared.commands.ProblemCommand.TheVariants.{Games, Cooks}
 use Rattle.pg_cli.specs.Answers.{HasAnswer, HasList, IsAnswered, OfSomeText}
+use Rattle.pg_cli.specs.Converting.{HasEnds, HasPgn}
 use Rattle.pg_cli.specs.Judging.{IsListJudged}
 use Rattle.pg_cli.specs.Knowing.{IsFollowedWith, IsTestedWith}
 use Rattle.pg_cli.specs.Solving.{IsSolvedBoard}
@@ -93,6 +94,8 @@ name_of (Other Judge) = codes "judge"
 name_of (OfCertificate Why) = codes "why"
 name_of (OfCertificate Page) = codes "page"
 name_of (Other Upgrade) = codes "upgrade"
+name_of (Other Pgn) = codes "pgn"
+name_of (Other End) = codes "end"
 
 -- what a status says of a problem: with `games` and `cooks` it is that of what solutions which some text spells show, or
 -- of what is found beside them, and 1 only where no list of one game is the exact answer
@@ -124,6 +127,8 @@ says_of_words Gives Count rows status = HasFewPlies rows status
 says_of_words Gives Solve rows status = IsSolved rows status
 says_of_words Gives Judge rows status = IsListJudged Gives (spelled (codes "PROBLEMS") rows) status
 says_of_words Gives Upgrade rows status = status ≡ 0
+says_of_words Gives Pgn rows status = HasPgn Gives (spelled (codes "FILE") rows) status
+says_of_words Gives End rows status = HasEnds Gives (spelled (codes "MOVES") rows) status
 
 -- what a status says of a command with these words, where `Names` is what the header of the certificate of a name names,
 -- and `Gives` which bytes the list of a name has

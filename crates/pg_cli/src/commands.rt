@@ -49,6 +49,10 @@ pub(crate) enum OtherCommand {
     Judge,
     /// A certificate of version 1 is copied as one of version 2.
     Upgrade,
+    /// Games in PGN are written as a list.
+    Pgn,
+    /// Where the games of a list end.
+    End,
 }
 
 impl Command {
@@ -70,6 +74,8 @@ impl Command {
             "why" => Some(Command::OfCertificate(CertificateCommand::Why)),
             "page" => Some(Command::OfCertificate(CertificateCommand::Page)),
             "upgrade" => Some(Command::Other(OtherCommand::Upgrade)),
+            "pgn" => Some(Command::Other(OtherCommand::Pgn)),
+            "end" => Some(Command::Other(OtherCommand::End)),
             _ => None,
         }
     }

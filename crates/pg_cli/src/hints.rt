@@ -1,7 +1,7 @@
 //! Second lines, on a terminal or with `--hints`, behind the line that says why a command has no answer: what is wrong in
 //! a text or a file, and what to try. They take no part in any answer.
 
-use crate::lists::{tell_byte, tell_list, tell_misfit, tell_name};
+use crate::lists::{tell_byte, tell_letters, tell_list, tell_misfit, tell_name};
 use crate::refusals::{GAVE_UP, Named, Reached, Refusal};
 use crate::spelling::{say_tolls, text_of};
 use clap::ArgMatches;
@@ -205,6 +205,7 @@ pub(crate) fn advise<R: Runtime + AllocGlobal>(rt: &R, words: &ArgMatches<'_>, r
         Refusal::Full(known) => tell_full(rt, known),
         Refusal::Late(known) => tell_late(rt, words, known),
         Refusal::NotUtf8 => tell_byte(rt, words),
+        Refusal::Pgn(_) => tell_letters(rt, words),
         Refusal::Check(fault) => tell_check(rt, words, fault),
         Refusal::Answer(AnswerRunFault::Answer(AnswerFault::Check(fault))) => {
             tell_certificate(rt, words, fault)

@@ -7,6 +7,7 @@ use pg_checker::ListFault;
 use pg_fen::{Diagram, Length};
 use pg_files::{INPUT, open_plain, read_all};
 use pg_hints::{Misfit, bad_byte, line_like, misfit_of, name_of, on_move};
+use pg_pgn::{fitting, name_of as letters_name};
 use pg_report::GamesFault;
 use std::io::Eprint;
 use std::rt::Runtime;
@@ -57,6 +58,23 @@ pub(crate) fn tell_byte<R: Runtime + AllocGlobal>(rt: &R, words: &ArgMatches<'_>
     if let Some(place) = bad_byte(list.as_slice()) {
         let (line, byte) = (place.line, place.byte);
         let _ = eprintln!(rt; "pg: the first bad byte is byte {byte} of line {line}");
+    }
+}
+
+// Says which letters games in PGN are in, where they are none in English ones.
+pub(crate) fn tell_letters<R: Runtime + AllocGlobal>(rt: &R, words: &ArgMatches<'_>) {
+    if words.get_str("letters").is_some() {
+        return;
+    }
+    let Ok(mut file) = open_plain(rt, text_of(words, "FILE")) else {
+        return;
+    };
+    let Ok(text) = read_all(rt.alloc(), &mut file) else {
+        return;
+    };
+    if let Some(letters) = fitting(rt.alloc(), text.as_slice()) {
+        let name = letters_name(letters);
+        let _ = eprintln!(rt; "pg: the letters are others: say --letters {name}");
     }
 }
 

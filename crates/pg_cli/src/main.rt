@@ -19,6 +19,7 @@ mod asked;
 mod bounds;
 mod checking;
 mod commands;
+mod converting;
 mod guiding;
 mod hints;
 mod judging;
@@ -157,6 +158,8 @@ fn other<R: Runtime + AllocGlobal>(
         OtherCommand::Solve => solving::solve(rt, words, screen),
         OtherCommand::Judge => judging::judge(rt, words, screen),
         OtherCommand::Upgrade => upgrading::upgrade(rt, words, screen.lines),
+        OtherCommand::Pgn => converting::pgn(rt, words),
+        OtherCommand::End => converting::end(rt, words),
     }
 }
 

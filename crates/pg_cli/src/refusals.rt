@@ -1,10 +1,11 @@
 //! Why a command ends without its answer, what the program says then, and its status.
 ghost use Rattle.std.specs.Prelude.{◌≡◌, ◌<◌, false, true};
 ghost use Rattle.pg_report.specs.Run.{of_problem};
-ghost use Rattle.pg_cli.specs.Refusals.{file_refusal, listing_refusal, refusal_status, tariffs_status};
+ghost use Rattle.pg_cli.specs.Refusals.{file_refusal, listing_refusal, pgn_status, refusal_status, tariffs_status};
 
 use pg_cooks::ListingFault;
 use pg_files::{FileFault, FileName, Obstacle};
+use pg_pgn::PgnFault;
 use pg_report::{
     AnswerRunFault, CountRunFault, Fault, MovesFault, ProblemFault, Refused, RunFault, SearchFault,
     ShowFault, Sink, UpgradeFault, answer_status, count_status, moves_status, search_status,
@@ -62,6 +63,8 @@ pub(crate) enum Named {
     Proof,
     /// The page that is written.
     Page,
+    /// The games in PGN that are read.
+    Pgn,
 }
 
 impl Named {
@@ -77,6 +80,7 @@ impl Named {
             Named::Folder => "certificates",
             Named::Proof => "keep",
             Named::Page => "out",
+            Named::Pgn => "FILE",
         }
     }
 }
@@ -173,6 +177,12 @@ pub(crate) enum Refusal {
     /// The tariffs of a file are not read.
     #[error("{0}")]
     Tariffs(CarriedFault),
+    /// Bytes are no games in PGN.
+    #[error("{0}")]
+    Pgn(PgnFault),
+    /// There are no letters of this name.
+    #[error("bad letters: they are english, german, french, dutch, spanish or italian")]
+    Letters,
 }
 
 // The status where the tariffs of a file are not read.
@@ -184,6 +194,17 @@ fn tariffs_status(fault: CarriedFault) -> u8
         CarriedFault::Read => FILES,
         CarriedFault::Memory => MEMORY,
         CarriedFault::Number | CarriedFault::Truncated => GAVE_UP,
+    }
+}
+
+// The status where bytes are no games in PGN.
+fn pgn_status(fault: &PgnFault) -> u8
+    ensures value { result ≡ pgn_status fault.now }
+    ensures fails { 0 < result }
+{
+    match fault {
+        PgnFault::Memory => MEMORY,
+        _ => BAD_INPUT,
     }
 }
 
@@ -238,6 +259,8 @@ impl Refusal {
             Refusal::Check(fault) => status(fault),
             Refusal::Answer(fault) => answer_status(fault),
             Refusal::Tariffs(fault) => tariffs_status(*fault),
+            Refusal::Pgn(fault) => pgn_status(fault),
+            Refusal::Letters => BAD_INPUT,
         }
     }
 }

@@ -99,7 +99,7 @@ pub(crate) fn say_all(words: &ArgMatches<'_>) -> bool
 }
 
 // The words that name files and folders.
-const NAMES: [Named; 9] = [
+const NAMES: [Named; 10] = [
     Named::Certificate,
     Named::Games,
     Named::Kept,
@@ -109,6 +109,7 @@ const NAMES: [Named; 9] = [
     Named::Folder,
     Named::Proof,
     Named::Page,
+    Named::Pgn,
 ];
 
 // The first word of a command that is to name a file or a folder and is empty, if one is.

@@ -5,3 +5,4 @@ pub mod Pgn
 pub mod Steps
 pub mod Writing
 pub mod KnownReadings
+pub mod Ends

@@ -2,11 +2,13 @@
 //! figurines.
 #![tactic(auto)]
 
+mod ends;
 mod fault;
 mod games;
 mod known;
 mod languages;
 mod letters;
+mod listing;
 mod numbers;
 mod places;
 mod reading;
@@ -16,9 +18,11 @@ mod tokens;
 mod words;
 mod writing;
 
+pub use ends::write_ends;
 pub use fault::{FormFault, PgnFault};
 pub use games::PgnGames;
 pub use languages::{fitting, letters_of, name_of};
 pub use letters::Letters;
+pub use listing::write_list;
 pub use reading::read_pgn;
 pub use writing::{write_game, write_pgn};

@@ -133,6 +133,20 @@ Example, with the certificate that the initial array is reached in no move:
   echo UEdDMQAkUzZCEREREQAAAAAAAAAAAAAAAAAAAACZmZmZrNu+yg== | base64 -d >v1.pgc
   pg upgrade v1.pgc v2.pgc";
 
+const PGN_EXAMPLE: &str =
+    "Tags, comments, variations, NAGs and results are passed over; a game may stand
+over several lines. What is printed is what `pg games` and `--games` read.
+
+Example:
+  echo '1. e4 {best} e5 (1... c5) 2. Sf3 *' >mail.pgn
+  pg pgn mail.pgn";
+
+const END_EXAMPLE: &str = "Four lines a game: its moves, and where it ends as `pg solve`, `show` and
+`search` take it. With `-` the games are those of standard input, one a line.
+
+Example:
+  pg end '1. e4 e5 2. Nf3'";
+
 // How a word is read.
 #[derive(Clone, Copy)]
 enum Kind {
@@ -233,6 +247,25 @@ const MOVES: Word = Word {
     name: "MOVES",
     kind: Kind::Line,
     help: "The moves of a game from the array, as one word; - for none",
+};
+
+// The moves of `pg end`.
+const MOVES_ENDED: Word = Word {
+    name: "MOVES",
+    kind: Kind::Line,
+    help: "The moves of a game, as one word; -: a list on standard input",
+};
+
+const PGN: Word = Word {
+    name: "FILE",
+    kind: Kind::Line,
+    help: "Games in PGN; - for standard input",
+};
+
+const LETTERS: Word = Word {
+    name: "letters",
+    kind: Kind::Named("LANGUAGE"),
+    help: "german, french, dutch, spanish or italian; else english",
 };
 
 const OLD: Word = Word {
@@ -441,7 +474,7 @@ struct Entry {
     words: &'static [Word],
 }
 
-const COMMANDS: [Entry; 13] = [
+const COMMANDS: [Entry; 15] = [
     Entry {
         name: "solve",
         about: "Says of one problem whether it is sound, with the games",
@@ -565,6 +598,18 @@ const COMMANDS: [Entry; 13] = [
         about: "Copies a certificate of version 1 as one of version 2",
         below: UPGRADE_EXAMPLE,
         words: &[OLD, NEW, RECORDS],
+    },
+    Entry {
+        name: "pgn",
+        about: "Prints the games of a file in PGN as a list, one a line",
+        below: PGN_EXAMPLE,
+        words: &[PGN, LETTERS],
+    },
+    Entry {
+        name: "end",
+        about: "Prints the diagram, the length and the FEN at the end of games",
+        below: END_EXAMPLE,
+        words: &[MOVES_ENDED],
     },
 ];
 

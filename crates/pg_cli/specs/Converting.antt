@@ -1,0 +1,21 @@
+-- What a status of `pg pgn` and of `pg end` says of the bytes that are read.
+use Rattle.std.specs.Prelude.{◌≡◌, ◌≢◌, ◌⊎◌, ℕ, List, codes}
+use Rattle.clap.specs.Words.{Text}
+use Rattle.pg_position.specs.declared.moves.Move.{Move}
+use Rattle.pg_san.specs.Listing.{IsListing}
+use Rattle.pg_pgn.specs.Pgn.{IsFile}
+use Rattle.pg_pgn.specs.declared.letters.Letters.{Letters}
+
+-- the bytes that a name gives are games in PGN, in the letters of some language, and the status is 0
+abbrev pub HasPgn : (Text → List ℕ → Type 0) → Text → ℕ → Type 0
+HasPgn Gives name status = (text : List ℕ) × Gives name text
+    × ((letters : Letters) × (games : List (List Move)) × IsFile letters text games) × (status ≡ 0)
+
+-- the bytes are these moves, or what a hyphen gives
+abbrev pub IsTyped : (Text → List ℕ → Type 0) → Text → List ℕ → Type 0
+IsTyped Gives moves text = (text ≡ moves) ⊎ ((moves ≡ codes "-") × Gives moves text)
+
+-- these bytes are a list of games, and the status is 0
+abbrev pub HasEnds : (Text → List ℕ → Type 0) → Text → ℕ → Type 0
+HasEnds Gives moves status = (text : List ℕ) × IsTyped Gives moves text
+    × ((games : List (List Move)) × IsListing text games) × (status ≡ 0)
