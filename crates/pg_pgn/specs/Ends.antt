@@ -18,12 +18,16 @@ use Rattle.pg_texts.specs.Report.{line_text, labelled_text}
 abbrev pub Resets : State → Move → Type 0
 Resets p m = Stands p.board p.side Pawn m.from ⊎ (get p.board m.to ≢ None)
 
--- the moves are a game from p, before which n plies were neither; q is its last position, and before it `still` plies
+-- behind a move at p, before which n plies were neither, k plies were neither
+abbrev pub IsStillAfter : State → Move → ℕ → ℕ → Type 0
+IsStillAfter p m n k = (Resets p m × (k ≡ 0)) ⊎ ((¬ Resets p m) × (k ≡ n + 1))
+
+-- the moves are a game from p, before which n plies were neither; q is its last position, before which `still` plies
 -- were neither
 unfoldable pub Plays : State → ℕ → List Move → State → ℕ → Type 0
 Plays p n [] q still = (p ≡ q) × (n ≡ still)
-Plays p n (m ∷ ms) q still = (r : State) × Legal p m r
-    × ((Resets p m × Plays r 0 ms q still) ⊎ ((¬ Resets p m) × Plays r (n + 1) ms q still))
+Plays p n (m ∷ ms) q still =
+    (r : State) × (k : ℕ) × Legal p m r × IsStillAfter p m n k × Plays r k ms q still
 
 -- numbers of a position's text go up to 65,535
 abbrev pub number : ℕ → ℕ

@@ -1,5 +1,5 @@
 //! Where the games of a list end.
-ghost use Rattle.std.specs.Prelude.{◌≡◌, ◌↔◌, ℕ, IsTrue, length, OnOk, OnErr, IfOk, IfErr};
+ghost use Rattle.std.specs.Prelude.{◌≡◌, ◌↔◌, ◌<◌, ◌%◌, ◌==◌, if◌then◌else◌, IsTrue, codes};
 ghost use Rattle.pg_certificate.specs.Pushing.{Adds, AddsSome, MayPush, Pushes};
 ghost use Rattle.pg_fen.specs.Lengths.{length_text};
 ghost use Rattle.pg_position.specs.Array.{array_state};
@@ -7,8 +7,9 @@ ghost use Rattle.pg_position.specs.Position.{Stands};
 ghost use Rattle.pg_board.specs.declared.man.Kind.TheVariants.{Pawn};
 ghost use Rattle.pg_san.specs.Games.{IsFromArray};
 ghost use Rattle.pg_texts.specs.Report.{labelled_text};
-ghost use Rattle.pg_pgn.specs.Ends.{AreEndTexts, IsEndText, Plays, Resets, number};
+ghost use Rattle.pg_pgn.specs.Ends.{AreEndTexts, IsEndText, IsStillAfter, Plays, Resets, number};
 
+use arrayvec::ArrayString;
 use pg_board::Kind;
 use pg_certificate::{Refused, Sink};
 use pg_fen::text::digits;
@@ -41,27 +42,26 @@ fn resets(position: &Position, m: &Move) -> bool
     moves_pawn(position, m) || position.board().get(m.to).is_some()
 }
 
+// How many plies before a position were no move of a pawn and took nothing, after a move from one with so many.
+fn still_after(position: &Position, m: &Move, still: usize) -> usize
+    requires { still < 18446744073709551615 }
+    ensures { IsStillAfter position.now m.now still result }
+{
+    if resets(position, m) { 0 } else { still + 1 }
+}
+
 // Where a game from the initial array ends.
 fn end_of(game: &[Move]) -> End
     requires { IsFromArray game.now }
     ensures { Plays array_state 0 game.now result.last result.still }
 {
-    let mut end = End {
-        last: Position::array(),
-        still: 0,
-    };
+    let mut last = Position::array();
+    let mut still = 0;
     for m in game {
-        let still = if resets(&end.last, m) {
-            0
-        } else {
-            end.still + 1
-        };
-        end = End {
-            last: end.last.after(m),
-            still,
-        };
+        still = still_after(&last, m, still);
+        last = last.after(m);
     }
-    end
+    End { last, still }
 }
 
 // A number that a position's text may have.
@@ -79,14 +79,22 @@ fn write_labelled<W: Sink>(label: &str, text: &str, out: &mut W) -> Result<(), R
     write_line(text, out)
 }
 
-// Appends the line on a game's length.
-fn write_length<W: Sink>(plies: usize, out: &mut W) -> Result<(), Refused>
-    ensures { Pushes W.held W.has_failed (Adds (labelled_text (codes "length ") (length_text plies))) out.old out.new result }
+// What stands behind the whole moves of so many plies.
+fn half_of(plies: usize) -> &'static str
+    ensures { result.now ≡ (if plies % 2 == 0 then codes ".0" else codes ".5") }
 {
-    out.push(b"length ")?;
-    out.push(digits(plies / 2).as_bytes())?;
-    let half = if plies % 2 == 0 { ".0" } else { ".5" };
-    write_line(half, out)
+    if plies % 2 == 0 { ".0" } else { ".5" }
+}
+
+// The length of a game, as text.
+#[tactic(auto, unfolding(pg_fen::specs::Lengths::length_text))]
+fn length_of(plies: usize) -> ArrayString<22>
+    ensures { result.bytes ≡ length_text plies }
+{
+    let mut text = ArrayString::new();
+    text.push_str(digits(plies / 2).as_str());
+    text.push_str(half_of(plies));
+    text
 }
 
 // Appends the lines on a game from the initial array.
@@ -102,7 +110,7 @@ fn write_end<W: Sink>(game: &[Move], out: &mut W) -> Result<(), Refused>
     };
     write_game(game, out)?;
     write_labelled("diagram ", Diagram::of(&end.last).write().as_str(), out)?;
-    write_length(game.len(), out)?;
+    write_labelled("length ", length_of(game.len()).as_str(), out)?;
     write_labelled("fen ", write_position(&last).as_str(), out)
 }
 

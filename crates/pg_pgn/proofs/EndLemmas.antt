@@ -1,0 +1,89 @@
+-- Lines on games grow by those on one game more, and a game goes on to its end. Leads to the contracts of write_list and write_ends.
+use Rattle.std.proofs.Common.{◌≡◌, ℕ, ◌+◌, ◌<◌, ◌≤◌, List, [], ◌∷◌, ◌++◌, Option, Some, length, get_or, take, drop, refl, sym, ap, subst, append_assoc, append-nil, add-one, suc, drop-cons, inl, inr, arith, ◌∙◌}
+use Rattle.std.specs.Prelude.{slice_get}
+use Rattle.std.proofs.KnownBytes.{Appends-nil, Appends-trans}
+use Rattle.std.proofs.lemmas.List.{take_more, take_all, drop_all}
+use Rattle.std.proofs.lemmas.Option.{get_or_from_slice_get}
+use Rattle.std.specs.Io.KnownBytes.{Appends}
+use Rattle.pg_certificate.specs.Pushing.{AddsSome}
+use Rattle.pg_position.specs.declared.moves.Move.{Move}
+use Rattle.pg_position.specs.declared.state.State.{State}
+use Rattle.pg_position.specs.Array.{array_state}
+use Rattle.pg_position.specs.Position.{IsPosition}
+use Rattle.pg_position.specs.Step.{Legal, IsLegal}
+use Rattle.pg_position.specs.Game.{IsGame}
+use Rattle.pg_position.proofs.FutureLemmas.{one_result}
+use Rattle.pg_san.specs.Games.{IsFromArray}
+use Rattle.pg_pgn.specs.Ends.{AreEndTexts, IsEndText, IsStillAfter, Plays}
+
+ends_more : (games : List (List Move)) (g : List Move) (text one : List ℕ) → AreEndTexts games text → IsEndText g one → AreEndTexts (games ++ g ∷ []) (text ++ one)
+unfolding AreEndTexts
+ends_more [] g text one h is = (one, [], is, refl, ap (λ (l : List ℕ). l ++ one) h ∙ sym (append-nil one))
+ends_more (x ∷ xs) g text one (first, rest, said, more, e) is = (
+  first,
+  rest ++ one,
+  said,
+  ends_more xs g rest one more is,
+  ap (λ (l : List ℕ). l ++ one) e ∙ append_assoc first rest one,
+)
+
+pub no_ends : (games : List (List Move)) (held : Option (List ℕ)) → AddsSome (AreEndTexts (take 0 games)) held held
+unfolding AreEndTexts
+no_ends games held = ([], refl, Appends-nil held)
+
+pub one_end_more : (games : List (List Move)) (n : ℕ) (g : List Move) (a b c : Option (List ℕ)) → n < length games → slice_get games n ≡ Some g → AddsSome (AreEndTexts (take n games)) a b → AddsSome (IsEndText g) b c → AddsSome (AreEndTexts (take (n + 1) games)) a c
+one_end_more games n g a b c low at (text, are, grows) (one, is, more) =
+    let here : get_or games n g ≡ g = get_or_from_slice_get games n g g at in
+    let e : take (n + 1) games ≡ take n games ++ g ∷ [] = take_more games n g low ∙ ap (λ (x : List Move). take n games ++ x ∷ []) here in (
+      text ++ one,
+      subst (λ (x : List (List Move)). AreEndTexts x (text ++ one)) (sym e) (ends_more (take n games) g text one are is),
+      Appends-trans a b c text one grows more,
+    )
+
+pub all_ends : (games : List (List Move)) (n : ℕ) (a b : Option (List ℕ)) → length games ≤ n → AddsSome (AreEndTexts (take n games)) a b → AddsSome (AreEndTexts games) a b
+all_ends games n a b l h = subst (λ (x : List (List Move)). AddsSome (AreEndTexts x) a b) (take_all n games l) h
+
+-- ---- a game
+-- i moves of the game lead to the position, n plies before which were no move of a pawn and took nothing, whatever comes
+-- of the others; and these can be played there
+pub record Lasts (game : List Move) (i : ℕ) (p : State) (n : ℕ) : Type 0 where
+  pub on : (q : State) (s : ℕ) → Plays p n (drop i game) q s → Plays array_state 0 game q s
+  pub more : (r : State) × IsGame p (drop i game) r
+  pub few : n ≤ i
+
+pub lasts_start : (game : List Move) (p : State) → p ≡ array_state → IsFromArray game → Lasts game 0 p 0
+unfolding IsFromArray
+lasts_start game p e h = record {
+  on = λ q s plays. subst (λ (v : State). Plays v 0 game q s) e plays;
+  more = subst (λ (v : State). (r : State) × IsGame v game r) (sym e) h;
+  few = omega (arith);
+}
+
+dropped : (game : List Move) (i : ℕ) (m : Move) → i < length game → m ≡ get_or game i m → drop i game ≡ m ∷ drop (i + 1) game
+dropped game i m low is = rw add-one (drop-cons game i m low ∙ ap (λ (x : Move). x ∷ drop (suc i) game) (sym is))
+
+next_of : (game : List Move) (i n : ℕ) (p : State) (m : Move) → i < length game → m ≡ get_or game i m → Lasts game i p n → (r : State) × ((q : State) × Legal p m q × IsGame q (drop (i + 1) game) r)
+next_of game i n p m low is h = (h.more.0, subst (λ (v : List Move). IsGame p v h.more.0) (dropped game i m low is) h.more.1)
+
+pub lasts_legal : (game : List Move) (i n : ℕ) (p : State) (m : Move) → i < length game → m ≡ get_or game i m → Lasts game i p n → IsLegal p m
+lasts_legal game i n p m low is h = let r = next_of game i n p m low is h in (r.1.0, r.1.1)
+
+few_more : (p : State) (m : Move) (i n k : ℕ) → n ≤ i → IsStillAfter p m n k → k ≤ i + 1
+few_more p m i n k few (inl h) = omega (arith, h.1)
+few_more p m i n k few (inr h) = omega (arith, few, h.1)
+
+pub lasts_on : (game : List Move) (i n k : ℕ) (p q : State) (m : Move) → i < length game → m ≡ get_or game i m → Lasts game i p n → IsPosition p → Legal p m q → IsStillAfter p m n k → Lasts game (i + 1) q k
+unfolding Plays
+lasts_on game i n k p q m low is h valid legal after =
+    let r = next_of game i n p m low is h in
+    let one : r.1.0 ≡ q = one_result p m r.1.0 q valid r.1.1 legal in
+    record {
+      on = λ e s plays. h.on e s (subst (λ (v : List Move). Plays p n v e s) (sym (dropped game i m low is)) (q, k, legal, after, plays));
+      more = (r.0, subst (λ (v : State). IsGame v (drop (i + 1) game) r.0) one r.1.2);
+      few = few_more p m i n k h.few after;
+    }
+
+pub lasts_end : (game : List Move) (i n : ℕ) (p : State) → length game ≤ i → Lasts game i p n → Plays array_state 0 game p n
+unfolding Plays
+lasts_end game i n p past h =
+    h.on p n (subst (λ (v : List Move). Plays p n v p n) (sym (drop_all i game past)) (refl, refl))
