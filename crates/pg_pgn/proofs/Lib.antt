@@ -2,3 +2,4 @@ pub mod ReadingLemmas
 pub mod FaultLemmas
 pub mod LegalLemmas
 pub mod KnownLemmas
+pub mod WritingLemmas

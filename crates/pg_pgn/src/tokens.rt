@@ -66,6 +66,7 @@ pub(crate) fn is_blank(byte: u8) -> bool
 }
 
 /// The kind of the token that a byte begins.
+#[tactic(auto, unfolding(crate::specs::Tokens::kind_of))]
 pub(crate) fn kind_of(byte: u8) -> TokenKind
     ensures { result ≡ kind_of byte }
 {
@@ -172,6 +173,7 @@ fn next_part(part: TagPart, byte: u8) -> TagPart
 }
 
 // How many bytes go to the end of a tag pair.
+#[tactic(auto, unfolding(crate::specs::Tokens::tag_from))]
 fn tag_len(more: &[u8]) -> Option<usize>
     ensures value { result ≡ tag_from 0 TagPart.Bare more.now }
     ensures fits { IfSome result (λ n. n ≤ length more.now) }

@@ -1,5 +1,5 @@
 //! What the words of a movetext say.
-ghost use Rattle.std.specs.Prelude.{◌≡◌, ◌≤◌, length, OnOk, IsUtf8};
+ghost use Rattle.std.specs.Prelude.{◌≡◌, ◌≤◌, length, OnOk, string_bytes};
 ghost use Rattle.std.specs.List.{prefix_len};
 ghost use Rattle.pg_san.specs.GameText.{digits_len, dots_len, is_dot};
 ghost use Rattle.pg_pgn.specs.Pgn.{without_number, said, is_result, is_mark, is_idle, word_sign};
@@ -44,7 +44,7 @@ fn without_number(word: &[u8]) -> &[u8]
 /// # Errors
 /// Where memory is refused.
 pub(crate) fn write_said(text: &mut String, letters: Letters, word: &[u8]) -> Result<(), AllocError>
-    ensures { OnOk result (text.new.bytes ≡ said letters word.now) }
+    ensures { OnOk result (string_bytes text.new ≡ said letters word.now) }
 {
     write_english(text, letters, without_number(word))
 }
