@@ -1,5 +1,8 @@
+pub mod TokenLemmas
 pub mod ReadingLemmas
 pub mod FaultLemmas
 pub mod LegalLemmas
 pub mod KnownLemmas
 pub mod WritingLemmas
+pub mod SanBytes
+pub mod RoundLemmas

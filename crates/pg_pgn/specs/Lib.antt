@@ -3,5 +3,6 @@ pub mod Tokens
 pub mod Places
 pub mod Pgn
 pub mod Steps
-pub mod Writing
 pub mod KnownReadings
+pub mod Languages
+pub mod Writing

@@ -52,7 +52,7 @@ pub(crate) fn write_said(text: &mut String, letters: Letters, word: &[u8]) -> Re
 fn is_result(text: &[u8]) -> bool
     ensures { result ≡ is_result text.now }
 {
-    matches!(text, b"1-0" | b"0-1" | b"1/2-1/2")
+    text == b"1-0".as_slice() || text == b"0-1".as_slice() || text == b"1/2-1/2".as_slice()
 }
 
 fn is_mark(byte: u8) -> bool
