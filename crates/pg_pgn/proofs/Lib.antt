@@ -4,5 +4,3 @@ pub mod FaultLemmas
 pub mod LegalLemmas
 pub mod KnownLemmas
 pub mod WritingLemmas
-pub mod SanBytes
-pub mod RoundLemmas

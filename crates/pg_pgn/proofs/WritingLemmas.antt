@@ -1,9 +1,11 @@
 -- The text of a game grows by one move more, and that of games by one game.
-use Rattle.std.proofs.Common.{◌≡◌, ℕ, suc, ◌+◌, ◌<◌, ◌≤◌, List, [], ◌∷◌, ◌++◌, Option, length, get_or, take, drop, refl, sym, ap, subst, arith, append_assoc, append-nil, ◌∙◌}
+use Rattle.std.proofs.Common.{◌≡◌, ℕ, suc, ◌+◌, ◌<◌, ◌≤◌, List, [], ◌∷◌, ◌++◌, Option, Some, length, length-drop, get_or, take, drop, refl, sym, ap, subst, arith, append_assoc, append-nil, ◌∙◌}
 use Rattle.std.proofs.KnownBytes.{Appends-nil, Appends-trans}
 use Rattle.std.proofs.lemmas.List.{take_more, take_all, take-append-drop, length-take-le}
+use Rattle.std.proofs.lemmas.Grind.{get_or_after_one}
+use Rattle.std.proofs.lemmas.Option.{get_or_from_slice_get}
 use Rattle.std.proofs.Math.Seq.{drop-cons}
-use Rattle.std.specs.Prelude.{codes}
+use Rattle.std.specs.Prelude.{codes, Result, Ok, Err, OnOk, IfOk, slice_get, ◌-◌}
 use Rattle.std.specs.Io.KnownBytes.{Appends}
 use Rattle.pg_certificate.specs.Pushing.{AddsSome}
 use Rattle.pg_position.specs.declared.state.State.{State}
@@ -127,3 +129,33 @@ pub all_games : (games : List (List Move)) (g : List Move) (gs : List (List Move
 unfolding IsPgnText
 all_games games g gs a b c e (own, is, grows) (rest, further, more) =
     (own ++ rest, subst (λ (x : List (List Move)). IsPgnText x (own ++ rest)) (sym e) (own, rest, is, further, refl), Appends-trans a b c own rest grows more)
+
+-- ---- answers
+pub on_ok : {A E : Type 0} (r : Result A E) (P Q : Type 0) → (P → Q) → OnOk r P → OnOk r Q
+on_ok (Ok a) P Q f h = f h
+on_ok (Err e) P Q f h = h
+
+pub ply_written : {E : Type 0} (k : Result ℕ E) (n ply mid : ℕ) (p : State) (m : Move) (san word : List ℕ) (a b c : Option (List ℕ)) → IsSan p m san → word ≡ san → Appends a b (number_text n ply) → mid ≡ number_columns n ply
+    → OnOk k (Appends b c (spaced mid word)) → IfOk k (λ j. j ≡ columns mid (length word)) → IfOk k (λ j. AddsPly n ply p m j a c)
+ply_written (Err e) n ply mid p m san word a b c is same number at text columned = columned
+ply_written (Ok j) n ply mid p m san word a b c is same number at text columned = (
+  word,
+  subst (IsSan p m) (sym same) is,
+  columned ∙ ap (λ (x : ℕ). columns x (length word)) at,
+  Appends-trans a b c (number_text n ply) (spaced (number_columns n ply) word) number (subst (λ (x : ℕ). Appends b c (spaced x word)) at text),
+)
+
+-- the game at i comes behind those before it, the first apart
+pub further_at : (gs : List (List Move)) (i : ℕ) (g : List Move) → 1 ≤ i → i < length gs → slice_get gs i ≡ Some g → take (i + 1 - 1) (drop 1 gs) ≡ take (i - 1) (drop 1 gs) ++ g ∷ []
+further_at gs i g low high is =
+    let l : length (drop 1 gs) ≡ length gs - 1 = length-drop 1 gs in
+    let within : i - 1 < length (drop 1 gs) = omega (arith, l, low, high) in
+    let k : i + 1 - 1 ≡ (i - 1) + 1 = omega (arith, low) in
+    let more : take ((i - 1) + 1) (drop 1 gs) ≡ take (i - 1) (drop 1 gs) ++ get_or (drop 1 gs) (i - 1) g ∷ [] = take_more (drop 1 gs) (i - 1) g within in
+    let same : 1 + (i - 1) ≡ i = omega (arith, low) in
+    let at : get_or (drop 1 gs) (i - 1) g ≡ g = get_or_after_one gs (i - 1) g ∙ ap (λ (x : ℕ). get_or gs x g) same ∙ get_or_from_slice_get gs i g g is in
+    ap (λ (x : ℕ). take x (drop 1 gs)) k ∙ more ∙ ap (λ (x : List Move). take (i - 1) (drop 1 gs) ++ x ∷ []) at
+
+pub first_of : (gs : List (List Move)) (g : List Move) → slice_get gs 0 ≡ Some g → gs ≡ g ∷ drop 1 gs
+first_of [] g e = absurd cc
+first_of (x ∷ xs) g e = ap (λ (y : List Move). y ∷ xs) (get_or_from_slice_get (x ∷ xs) 0 g x e)

@@ -3,6 +3,7 @@ ghost use Rattle.std.specs.Prelude.{◌≡◌, ◌≢◌, ◌↔◌, List, IsTru
 ghost use Rattle.pg_position.specs.declared.moves.Move.{Move};
 ghost use Rattle.pg_pgn.specs.declared.letters.Letters.{Letters};
 ghost use Rattle.pg_pgn.specs.declared.letters.Letters.TheVariants as Language;
+ghost use Rattle.pg_pgn.specs.Pgn.{IsFirstFault};
 ghost use Rattle.pg_pgn.specs.Languages.{name_of, IsReadBy, IsFaulty};
 
 use crate::fault::PgnFault;
@@ -49,13 +50,30 @@ fn is_read_by(alloc: Global, text: &[u8], letters: Letters) -> bool
     }
 }
 
-// Whether a word of a text is no move by English letters.
+// Whether a fault is one of the text, and no want of memory.
+fn is_of_text(fault: &PgnFault) -> bool
+    ensures { IsTrue result → fault.now ≢ PgnFault.Memory }
+{
+    match fault {
+        PgnFault::Memory => false,
+        PgnFault::At { .. } | PgnFault::Form { .. } => true,
+    }
+}
+
+// The fault that a text has by English letters.
+fn fault_of(alloc: Global, text: &[u8]) -> Option<PgnFault>
+    ensures { IfSome result (λ e. IsFirstFault Language.English text.now e) }
+{
+    read_pgn(alloc, text, Letters::English).err()
+}
+
+// Whether a text has a fault by English letters.
 fn is_faulty(alloc: Global, text: &[u8]) -> bool
     ensures { IsTrue result → IsFaulty text.now }
 {
-    match read_pgn(alloc, text, Letters::English) {
-        Ok(_) => false,
-        Err(fault) => !matches!(fault, PgnFault::Memory),
+    match fault_of(alloc, text) {
+        Some(fault) => is_of_text(&fault),
+        None => false,
     }
 }
 

@@ -121,7 +121,11 @@ fn write_character(
 /// # Errors
 /// Where memory is refused.
 #[tactic(auto, unfolding(crate::specs::Letters::english))]
-pub(crate) fn write_english(text: &mut String, letters: Letters, word: &[u8]) -> Result<(), AllocError>
+pub(crate) fn write_english(
+    text: &mut String,
+    letters: Letters,
+    word: &[u8],
+) -> Result<(), AllocError>
     ensures { OnOk result (string_bytes text.new ≡ english letters word.now) }
 {
     text.clear();
