@@ -1,6 +1,7 @@
 //! Games in PGN.
 
-use pg_pgn::{Letters, PgnFault, PgnGames, fitting, letters_of, name_of, read_pgn};
+use pg_certificate::ToWrite;
+use pg_pgn::{Letters, PgnFault, PgnGames, fitting, letters_of, name_of, read_pgn, write_pgn};
 use pg_position::{Move, Position};
 use pg_san::write;
 use std::alloc::AllocError;
@@ -96,4 +97,69 @@ fn texts_are_read(rt: HostRuntime) {
     for row in TEXTS.lines() {
         check_row(&rt, row);
     }
+}
+
+// Rows of the language that is said to fit, and a text.
+const LANGUAGES: &str = "german e4 e5 Dh5
+dutch e4 e5 Pf3 Lc5
+spanish e4 e5 Cf3 Ac5
+french e4 e5 Cf3 Fc5
+english e4 e5 Nf3
+english e4 e5 Xf3";
+
+fn check_language<R: Abort + AllocGlobal>(rt: &R, row: &str) {
+    let (wanted, text) = row.split_once(' ').expect(rt, row);
+    let letters = match fitting(rt.alloc(), text.as_bytes()) {
+        Some(letters) => letters,
+        None => Letters::English,
+    };
+    assert_eq!(rt; name_of(letters), wanted);
+}
+
+#[test]
+fn languages_that_fit(rt: HostRuntime) {
+    for row in LANGUAGES.lines() {
+        check_language(&rt, row);
+    }
+}
+
+// Two games, and how they are written.
+const GAMES: &str =
+    "1.e4 e5 2.Nf3 Nc6 3.Bb5 a6 4.Ba4 Nf6 5.O-O Be7 6.Re1 b5 7.Bb3 d6 8.c3 O-O 9.h3 * *";
+
+const WRITTEN: &str = r#"[Event "?"]
+[Site "?"]
+[Date "????.??.??"]
+[Round "?"]
+[White "?"]
+[Black "?"]
+[Result "*"]
+
+1. e4 e5 2. Nf3 Nc6 3. Bb5 a6 4. Ba4 Nf6 5. O-O Be7 6. Re1 b5 7. Bb3 d6 8. c3
+O-O 9. h3 *
+
+[Event "?"]
+[Site "?"]
+[Date "????.??.??"]
+[Round "?"]
+[White "?"]
+[Black "?"]
+[Result "*"]
+
+*
+"#;
+
+fn check_written<R: Abort + AllocGlobal>(rt: &R, text: &str, wanted: &str) {
+    let Ok(games) = read_pgn(rt.alloc(), text.as_bytes(), Letters::English) else {
+        panic!(rt; "no games");
+    };
+    let mut out = ToWrite::new(Vec::new(rt.alloc()));
+    assert!(rt; write_pgn(&games, &mut out).is_ok());
+    let bytes = out.into_inner();
+    assert!(rt; bytes.as_slice() == wanted.as_bytes());
+}
+
+#[test]
+fn games_are_written(rt: HostRuntime) {
+    check_written(&rt, GAMES, WRITTEN);
 }
