@@ -1,6 +1,6 @@
 -- A cause where a token stands is the first fault of the text.
 use Rattle.std.proofs.Common.{◌≡◌, ℕ, ◌+◌, ◌<◌, inl, inr, List, [], length, refl, sym, subst, ◌∙◌}
-use Rattle.std.specs.Prelude.{Err}
+use Rattle.std.specs.Prelude.{Result as Outcome, Ok, Err, IfErr}
 use Rattle.pg_san.specs.declared.fault.SanFault.{SanFault}
 use Rattle.pg_san.specs.Matching.{IsReading}
 use Rattle.pg_pgn.specs.declared.letters.Letters.{Letters}
@@ -45,3 +45,7 @@ unfolding IsFormFault IsWordFault
 token_fault letters text r rest token left game ply NoMemory fault read starts g p is tells = memory_fault letters text r rest fault read tells
 token_fault letters text r rest token left game ply (Form f) fault read starts g p is tells = form_fault letters text r rest game ply f fault read g (inr (inr (token, left, starts, is))) tells
 token_fault letters text r rest token left game ply (Word cause) fault read starts g p is tells = word_fault letters text r rest game ply cause fault read g p (token, left, starts, is.0, is.1, is.2) tells
+
+pub no_memory : {A : Type 0} (letters : Letters) (text : List ℕ) (r : Reader) (rest : List ℕ) (k : Outcome A PgnFault) → IsRead letters text r rest → IfErr k (λ e. e ≡ Told.Memory) → IfErr k (λ e. IsFirstFault letters text e)
+no_memory letters text r rest (Ok a) read h = h
+no_memory letters text r rest (Err e) read h = memory_fault letters text r rest e read h

@@ -1,13 +1,17 @@
 -- Games that are read are legal from the initial array.
 use Rattle.std.proofs.Common.{◌≡◌, ℕ, ◌+◌, ◌-◌, ◌<◌, ◌≤◌, inl, inr, Bool, true, false, List, [], ◌∷◌, ◌++◌, length, refl, sym, ap, subst, ◌∙◌, arith}
-use Rattle.std.specs.Prelude.{All, if◌then◌else◌, ◌==◌, ◌||◌, nat_lt}
+use Rattle.std.specs.Prelude.{All, Result as Outcome, Ok, Err, OnOk, map, get_or, ltb, if◌then◌else◌, ◌==◌, ◌||◌, nat_lt}
 use Rattle.std.proofs.lemmas.List.Elements.{All-push}
+use Rattle.std.proofs.lemmas.List.{length-map}
+use Rattle.std.proofs.lemmas.Bool.{ltb-true}
+use Rattle.std.proofs.Math.ListN.{get_or-map}
 use Rattle.pg_position.specs.declared.state.State.{State}
 use Rattle.pg_position.specs.declared.moves.Move.{Move}
 use Rattle.pg_position.specs.Array.{array_state}
 use Rattle.pg_position.specs.Game.{IsGame}
 use Rattle.pg_position.specs.Step.{Legal}
 use Rattle.pg_san.specs.Games.{IsFromArray}
+use Rattle.pg_san.specs.Matching.{IsReading}
 use Rattle.pg_pgn.specs.declared.letters.Letters.{Letters}
 use Rattle.pg_pgn.specs.declared.signs.Sign.{Sign}
 use Rattle.pg_pgn.specs.declared.signs.Sign.TheVariants.{Nothing, Heads, Fen, SetUp, Opening, Closing, Result, Moves}
@@ -53,7 +57,7 @@ goes_legal SetUp r s text l goes = absurd goes
 goes_legal Result r s text l (inl (deep, e)) = subst AreLegal (sym e) l
 goes_legal Result r s text l (inr (depth, e)) = subst AreLegal (sym e) (at_game_legal (ended r) false (ended_legal r l))
 goes_legal Moves r s text l (inl (deep, e)) = subst AreLegal (sym e) l
-goes_legal Moves r s text l (inr (depth, m, next, reads, legal, e)) = subst AreLegal (sym e) (record { games = l.games; moves = game_more array_state r.here next r.moves m l.moves legal })
+goes_legal Moves r s text l (inr (depth, (m, next, reads, legal, e))) = subst AreLegal (sym e) (record { games = l.games; moves = game_more array_state r.here next r.moves m l.moves legal })
 
 leads_legal : (letters : Letters) (r : Reader) (tokens : List (List ℕ)) (s : Reader) → AreLegal r → Lead letters r tokens s → AreLegal s
 unfolding Lead
@@ -62,3 +66,20 @@ leads_legal letters r (t ∷ ts) s l leads = leads_legal letters leads.0 ts s (g
 
 pub read_legal : (letters : Letters) (text : List ℕ) (r : Reader) (rest : List ℕ) → IsRead letters text r rest → AreLegal r
 read_legal letters text r rest read = leads_legal letters (at_game [] false) read.tokens r none_legal read.leads
+
+pub games_legal : (games : List (List Move)) (r : Reader) → games ≡ all_games r → AreLegal r → All IsFromArray games
+games_legal games r e l = subst (λ (gs : List (List Move)). All IsFromArray gs) (sym e) (all_legal r l)
+
+-- one of the games
+pub legal_at : {V : Type 0} (f : V → List Move) (xs ys : List V) (i : ℕ) (x : V) (g : List Move) → All IsFromArray (map f xs) → ys ≡ xs → true ≡ ltb i (length ys) → x ≡ get_or ys i x → g ≡ f x → IsFromArray g
+legal_at f xs ys i x g all same low is e =
+    let n : i < length xs = ltb-true i (length xs) (sym (low ∙ ap (λ (zs : List _). ltb i (length zs)) same)) in
+    let l : i < length (map f xs) = subst (λ (k : ℕ). i < k) (sym (length-map xs f)) n in
+    let at : get_or (map f xs) i (f x) ≡ g = get_or-map f xs i x ∙ ap f (ap (λ (zs : List _). get_or zs i x) (sym same) ∙ sym is) ∙ sym e in
+    subst IsFromArray at (all i (f x) l)
+
+-- a move that was read, and was kept
+pub move_kept : {A E : Type 0} (k : Outcome A E) (r s : Reader) (m : Move) (next : State) (text : List ℕ) → r.depth ≡ 0 → IsReading r.here text (Ok m) → Legal r.here m next → OnOk k (s ≡ moved r m next) → OnOk k (Goes Moves r text s)
+unfolding Goes
+move_kept (Ok a) r s m next text depth reads legal e = inr (depth, (m, next, reads, legal, e))
+move_kept (Err e) r s m next text depth reads legal h = h

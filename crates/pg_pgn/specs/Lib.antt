@@ -3,6 +3,7 @@ pub mod Tokens
 pub mod Places
 pub mod Pgn
 pub mod Steps
-pub mod Writing
 pub mod KnownReadings
 pub mod Ends
+pub mod Languages
+pub mod Writing

@@ -20,7 +20,7 @@ use Rattle.pg_pgn.specs.declared.fault.PgnFault.TheVariants.{Memory, At, Form}
 use Rattle.pg_pgn.specs.declared.fault.FormFault.{FormFault}
 use Rattle.pg_pgn.specs.declared.fault.FormFault.TheVariants as Fault
 use Rattle.pg_pgn.specs.Letters.{english}
-use Rattle.pg_pgn.specs.Tokens.{AreTokens, StartsWith, IsUnclosed, kind_of, tag_name, tag_value, body, without_mark}
+use Rattle.pg_pgn.specs.Tokens.{AreTokens, StartsWith, IsUnclosed, kind_at, tag_name, tag_value, body, without_mark}
 use Rattle.pg_pgn.specs.Places.{before, line_from, column_from}
 
 -- ---- what a token says
@@ -75,8 +75,7 @@ sign_by Star letters token = Result
 sign_by Word letters token = word_sign (said letters token)
 
 abbrev pub sign_of : Letters → List ℕ → Sign
-sign_of letters [] = Nothing
-sign_of letters (b ∷ more) = sign_by (kind_of b) letters (b ∷ more)
+sign_of letters token = sign_by (kind_at token) letters token
 
 -- ---- reading
 -- what a reader knows at a place in a text: the games that have ended; the moves of the game at hand, where they lead,

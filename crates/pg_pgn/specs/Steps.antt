@@ -5,6 +5,7 @@ use Rattle.pg_position.specs.Array.{array_state}
 use Rattle.pg_position.specs.Game.{IsGame}
 use Rattle.pg_san.specs.Games.{IsFromArray}
 use Rattle.pg_san.specs.Matching.{IsReading}
+use Rattle.pg_pgn.specs.declared.tokens.TokenKind.{TokenKind}
 use Rattle.pg_pgn.specs.declared.tokens.TokenKind.TheVariants.{Comment, Tag}
 use Rattle.pg_pgn.specs.declared.signs.Sign.{Sign}
 use Rattle.pg_pgn.specs.declared.signs.Sign.TheVariants.{Nothing, Heads, Fen, SetUp, Result, Moves}
@@ -47,6 +48,11 @@ abbrev pub IsCause : Sign → Reader → List ℕ → Cause → Type 0
 IsCause sign r text NoMemory = Unit {0}
 IsCause sign r text (Form f) = IsSignFault sign r f
 IsCause sign r text (Word cause) = (sign ≡ Moves) × (r.depth ≡ 0) × IsReading r.here text (Err cause)
+
+-- the fault of a token that is not closed: comments and tag pairs alone may not be
+abbrev pub open_fault : TokenKind → FormFault
+open_fault Comment = Fault.Comment
+open_fault kind = Fault.Tag
 
 -- a text begins with a token that is not closed
 abbrev pub IsOpen : List ℕ → FormFault → Type 0

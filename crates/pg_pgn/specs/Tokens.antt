@@ -33,6 +33,11 @@ kind_of b =
     else (if b == code "*" then Star
     else Word))))))))
 
+-- the kind of a token, by its first byte
+abbrev pub kind_at : List ℕ → TokenKind
+kind_at [] = Gap
+kind_at (b ∷ more) = kind_of b
+
 abbrev pub is_word : TokenKind → Bool
 is_word Word = true
 is_word kind = false

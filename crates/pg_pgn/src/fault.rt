@@ -73,7 +73,10 @@ impl Display for PgnFault {
                 cause,
             } => {
                 let said = said_of(*cause);
-                write!(f, "line {line}, column {column}: game {game}, ply {ply}: {word} {said}")
+                write!(
+                    f,
+                    "line {line}, column {column}: game {game}, ply {ply}: {word} {said}"
+                )
             }
             PgnFault::Form {
                 line,

@@ -1,5 +1,5 @@
 //! Words in the letters of a language, as they are written in English.
-ghost use Rattle.std.specs.Prelude.{◌≡◌, ◌↔◌, ◌++◌, IsTrue, OnOk};
+ghost use Rattle.std.specs.Prelude.{◌≡◌, ◌++◌, OnOk, string_bytes, ◌<◌};
 ghost use Rattle.pg_pgn.specs.Letters.{is_man, translated, letter, figurine, dash, behind_226, behind_195, written, english};
 
 use std::alloc::AllocError;
@@ -103,7 +103,7 @@ fn write_character(
     byte: u8,
     more: &[u8],
 ) -> Result<(), AllocError>
-    ensures { OnOk result (text.new.bytes ≡ text.old.bytes ++ written letters byte more.now) }
+    ensures { OnOk result (string_bytes text.new ≡ string_bytes text.old ++ written letters byte more.now) }
 {
     match byte {
         b':' => text.push_str("x"),
@@ -120,8 +120,13 @@ fn write_character(
 ///
 /// # Errors
 /// Where memory is refused.
-pub(crate) fn write_english(text: &mut String, letters: Letters, word: &[u8]) -> Result<(), AllocError>
-    ensures { OnOk result (text.new.bytes ≡ english letters word.now) }
+#[tactic(auto, unfolding(crate::specs::Letters::english))]
+pub(crate) fn write_english(
+    text: &mut String,
+    letters: Letters,
+    word: &[u8],
+) -> Result<(), AllocError>
+    ensures { OnOk result (string_bytes text.new ≡ english letters word.now) }
 {
     text.clear();
     let mut rest = word;

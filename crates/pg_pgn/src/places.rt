@@ -45,6 +45,7 @@ fn next_line(line: usize, byte: u8, more: &[u8]) -> usize
 }
 
 // The line that is reached behind a text.
+#[tactic(auto, unfolding(crate::specs::Places::line_from))]
 fn line_behind(text: &[u8]) -> usize
     ensures { result ≡ line_from 1 text.now }
 {
@@ -73,6 +74,7 @@ fn next_column(column: usize, byte: u8, more: &[u8]) -> usize
 }
 
 // The column that is reached behind a text.
+#[tactic(auto, unfolding(crate::specs::Places::column_from))]
 fn column_behind(text: &[u8]) -> usize
     ensures { result ≡ column_from 1 text.now }
 {

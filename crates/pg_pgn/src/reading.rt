@@ -1,12 +1,12 @@
 //! Reading a file of games.
-ghost use Rattle.std.specs.Prelude.{◌≡◌, ℕ, ◌<◌, ◌≤◌, List, [], length, OnOk, IfOk, IfErr, All, false};
+ghost use Rattle.std.specs.Prelude.{◌≡◌, ℕ, ◌+◌, ◌<◌, ◌≤◌, List, [], length, map, OnOk, IfOk, IfErr, All, false};
 ghost use Rattle.pg_pgn.specs.Tokens.{StartsWith, without_mark};
 ghost use Rattle.pg_pgn.specs.declared.fault.PgnFault.TheVariants as PgnFault;
 ghost use Rattle.pg_pgn.specs.declared.signs.Sign.TheVariants as Sign;
 ghost use Rattle.pg_pgn.specs.declared.reading.Cause.TheVariants as Cause;
 ghost use Rattle.pg_pgn.specs.Pgn.{said, sign_of, tag_sign, word_sign, Goes, at_game, ended, head, moved, all_games, IsFile, IsFirstFault};
 ghost use Rattle.pg_pgn.specs.KnownReadings.{IsKnown};
-ghost use Rattle.pg_pgn.specs.Steps.{at, AreLegal, IsCause, IsOfTag, IsOpen, Tells};
+ghost use Rattle.pg_pgn.specs.Steps.{at, AreLegal, IsCause, IsOfTag, IsOpen, Tells, open_fault};
 
 use crate::fault::{FormFault, PgnFault};
 use crate::games::PgnGames;
@@ -15,7 +15,7 @@ use crate::letters::Letters;
 use crate::places::place_of;
 use crate::signs::Sign;
 use crate::tags::tag_sign;
-use crate::tokens::{TokenKind, body, kind_of, more_len};
+use crate::tokens::{TokenKind, body, kind_at, kind_of, more_len};
 use crate::words::{shown, word_sign, write_said};
 use pg_position::{Move, Position};
 use pg_san::SanFault;
@@ -79,6 +79,7 @@ fn step_head(alloc: Global, reading: &mut Reading) -> Result<(), Cause>
 }
 
 // Goes on behind a tag pair.
+#[tactic(auto, unfolding(crate::specs::Pgn::Goes))]
 fn step_tag(alloc: Global, reading: &mut Reading, sign: Sign) -> Result<(), Cause>
     requires { IsOfTag sign }
     ensures ok { (text : List ℕ) → OnOk result (Goes sign (at reading.old) text (at reading.new)) }
@@ -95,6 +96,7 @@ fn step_tag(alloc: Global, reading: &mut Reading, sign: Sign) -> Result<(), Caus
 }
 
 // Goes on behind a result.
+#[tactic(auto, unfolding(crate::specs::Pgn::Goes))]
 fn step_result(alloc: Global, reading: &mut Reading) -> Result<(), Cause>
     ensures ok { (text : List ℕ) → OnOk result (Goes Sign.Result (at reading.old) text (at reading.new)) }
     ensures err { IfErr result (λ e. e ≡ Cause.NoMemory) }
@@ -106,6 +108,7 @@ fn step_result(alloc: Global, reading: &mut Reading) -> Result<(), Cause>
 }
 
 // Goes on behind `)`.
+#[tactic(auto, unfolding(crate::specs::Pgn::Goes))]
 fn step_closing(reading: &mut Reading) -> Result<(), Cause>
     ensures ok { (text : List ℕ) → OnOk result (Goes Sign.Closing (at reading.old) text (at reading.new)) }
     ensures err { (text : List ℕ) → IfErr result (IsCause Sign.Closing (at reading.old) text) }
@@ -132,6 +135,7 @@ fn keep(reading: &mut Reading, m: Move, next: Position) -> Result<(), Cause>
 }
 
 // Goes on behind a move of the main line.
+#[tactic(auto, unfolding(crate::specs::Pgn::Goes))]
 fn step_move(reading: &mut Reading, known: &mut [Known], text: &str) -> Result<(), Cause>
     requires depth { reading.old.depth ≡ 0 }
     requires known { All IsKnown known.old }
@@ -147,6 +151,7 @@ fn step_move(reading: &mut Reading, known: &mut [Known], text: &str) -> Result<(
 }
 
 // Goes on behind a word of the main line, which says this.
+#[tactic(auto, unfolding(crate::specs::Pgn::Goes))]
 fn step_said(
     alloc: Global,
     reading: &mut Reading,
@@ -167,6 +172,7 @@ fn step_said(
 }
 
 // Goes on behind a word.
+#[tactic(auto, unfolding(crate::specs::Pgn::Goes))]
 fn step_word(
     alloc: Global,
     reading: &mut Reading,
@@ -191,6 +197,7 @@ fn step_word(
 }
 
 // Goes on behind a token.
+#[tactic(auto, unfolding(crate::specs::Pgn::Goes))]
 fn step(
     alloc: Global,
     reading: &mut Reading,
@@ -205,11 +212,7 @@ fn step(
     ensures ok { OnOk result (Goes (sign_of letters token.now) (at reading.old) (said letters token.now) (at reading.new)) }
     ensures err { IfErr result (IsCause (sign_of letters token.now) (at reading.old) (said letters token.now)) }
 {
-    let kind = match token.split_first() {
-        Some((first, _)) => kind_of(*first),
-        None => TokenKind::Gap,
-    };
-    match kind {
+    match kind_at(token) {
         TokenKind::Word => step_word(alloc, reading, known, letters, token, text),
         TokenKind::Tag => step_tag(alloc, reading, tag_sign(token)),
         TokenKind::Opens => {
@@ -223,7 +226,9 @@ fn step(
 }
 
 // Why the token at the front of a text is not closed.
-fn open_fault(kind: TokenKind) -> FormFault {
+fn open_fault(kind: TokenKind) -> FormFault
+    ensures { result ≡ open_fault kind }
+{
     match kind {
         TokenKind::Comment => FormFault::Comment,
         _ => FormFault::Tag,
@@ -231,6 +236,7 @@ fn open_fault(kind: TokenKind) -> FormFault {
 }
 
 // The token at the front of a text that is not empty, and what stands behind it.
+#[tactic(auto, using(crate::proofs::TokenLemmas::is_open))]
 fn next_token(text: &[u8]) -> Result<(&[u8], &[u8]), FormFault>
     requires { 0 < length text.now }
     ensures ok { IfOk result (λ r. StartsWith text.now r.0.now r.1.now) }
@@ -298,22 +304,30 @@ fn fault_of(
     }
 }
 
+// All games, at the end of a text.
+fn all_of(alloc: Global, reading: Reading) -> Result<Vec<Vec<Move>>, AllocError>
+    requires { reading.depth ≡ 0 }
+    ensures { IfOk result (λ games. map (λ v. v.items) games.items ≡ all_games (at reading)) }
+{
+    let mut reading = reading;
+    if reading.headed || !reading.moves.is_empty() {
+        end_game(alloc, &mut reading, false)?;
+    }
+    Ok(reading.games)
+}
+
 // The games of a file, at its end.
+#[tactic(auto, using(crate::proofs::LegalLemmas::games_legal))]
 fn games_of(alloc: Global, reading: Reading) -> Result<PgnGames, PgnFault>
     requires depth { reading.depth ≡ 0 }
     requires legal { AreLegal (at reading) }
     ensures ok { IfOk result (λ games. games ≡ all_games (at reading)) }
     ensures err { IfErr result (λ e. e ≡ PgnFault.Memory) }
 {
-    let mut reading = reading;
-    if reading.headed || !reading.moves.is_empty() {
-        if end_game(alloc, &mut reading, false).is_err() {
-            return Err(PgnFault::Memory);
-        }
+    match all_of(alloc, reading) {
+        Ok(games) => Ok(PgnGames { games }),
+        Err(_) => Err(PgnFault::Memory),
     }
-    Ok(PgnGames {
-        games: reading.games,
-    })
 }
 
 // Before the first token.
@@ -329,30 +343,68 @@ fn begun(alloc: Global) -> Reading
     }
 }
 
-pub fn read_pgn(alloc: Global, text: &[u8], letters: Letters) -> Result<PgnGames, PgnFault>
+// The number of the game at hand, counted from 1.
+fn game_number(reading: &Reading) -> usize
+    ensures { result ≡ length (at reading.now).games + 1 }
+{
+    reading.games.len() + 1
+}
+
+// The number of the ply at hand, counted from 1.
+fn ply_number(reading: &Reading) -> usize
+    ensures { result ≡ length (at reading.now).moves + 1 }
+{
+    reading.moves.len() + 1
+}
+
+// Reads a text, one token after another, by what is known.
+fn read_tokens(
+    alloc: Global,
+    text: &[u8],
+    letters: Letters,
+    known: &mut [Known],
+) -> Result<PgnGames, PgnFault>
+    requires { All IsKnown known.old }
     ensures ok { IfOk result (λ games. IsFile letters text.now games) }
     ensures err { IfErr result (λ e. IsFirstFault letters text.now e) }
 {
     let mut reading = begun(alloc);
     let mut word = String::new(alloc);
-    let mut known = room(alloc, text.len());
     let mut rest = body(text);
     while !rest.is_empty() {
-        let game = reading.games.len() + 1;
-        let ply = reading.moves.len() + 1;
+        let game = game_number(&reading);
+        let ply = ply_number(&reading);
         let (token, after) = match next_token(rest) {
             Ok(cut) => cut,
             Err(fault) => return Err(form_fault(text, rest, game, fault)),
         };
-        match step(alloc, &mut reading, known.as_mut_slice(), letters, token, &mut word) {
+        match step(alloc, &mut reading, known, letters, token, &mut word) {
             Ok(()) => {}
             Err(cause) => return Err(fault_of(text, rest, game, ply, token, cause)),
         }
         rest = after;
     }
     if reading.depth > 0 {
-        let game = reading.games.len() + 1;
-        return Err(form_fault(text, rest, game, FormFault::Variation));
+        return Err(form_fault(text, rest, game_number(&reading), FormFault::Variation));
     }
     games_of(alloc, reading)
+}
+
+/// The games of a text in PGN (the import format of the PGN standard, sections 7 and 8), each from the initial array and
+/// in the order of the text, the same game as often as it stands there. The men's letters are those of a language, or
+/// figurines; `:` and a cross stand for `x` too, a dash for `-`, and `o` or a zero for the letter of castling. Comments,
+/// annotation glyphs, variations, marks and `e.p.` are passed over. A game ends at a result, at a tag pair behind a move,
+/// or at the end of the text. Each move is read as by `pg_san::read`. The games are taken from `alloc`, and so is, while
+/// a long text is read, room of some 43 KB.
+///
+/// # Errors
+/// The first fault of the text: `At` with its place, where a word of the main line is no legal move, or more than one;
+/// `Form` where a comment, a tag pair or a variation is not closed, a bracket closes nothing, or a tag pair sets up a
+/// position; and `Memory` where memory is refused.
+pub fn read_pgn(alloc: Global, text: &[u8], letters: Letters) -> Result<PgnGames, PgnFault>
+    ensures ok { IfOk result (λ games. IsFile letters text.now games) }
+    ensures err { IfErr result (λ e. IsFirstFault letters text.now e) }
+{
+    let mut known = room(alloc, text.len());
+    read_tokens(alloc, text, letters, known.as_mut_slice())
 }

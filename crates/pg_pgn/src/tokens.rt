@@ -1,8 +1,8 @@
 //! How a text is cut into tokens.
-ghost use Rattle.std.specs.Prelude.{◌≡◌, ◌≤◌, ◌<◌, length, MatchOption, None, IfSome};
+ghost use Rattle.std.specs.Prelude.{◌≡◌, ◌||◌, ◌≤◌, length, IfSome};
 ghost use Rattle.std.specs.List.{prefix_len};
 ghost use Rattle.std.specs.Char.{is_ascii_digit};
-ghost use Rattle.pg_pgn.specs.Tokens.{is_line_end, is_in_line, is_gap, kind_of, is_word_byte, is_inside, hidden_len};
+ghost use Rattle.pg_pgn.specs.Tokens.{is_line_end, is_in_line, is_gap, kind_of, kind_at, is_word_byte, is_inside, hidden_len};
 ghost use Rattle.pg_pgn.specs.Tokens.{comment_len, next_part, tag_from, more_len, without_mark, body};
 ghost use Rattle.pg_pgn.specs.declared.tokens.TagPart.TheVariants as TagPart;
 
@@ -66,6 +66,7 @@ pub(crate) fn is_blank(byte: u8) -> bool
 }
 
 /// The kind of the token that a byte begins.
+#[tactic(auto, unfolding(crate::specs::Tokens::kind_of))]
 pub(crate) fn kind_of(byte: u8) -> TokenKind
     ensures { result ≡ kind_of byte }
 {
@@ -80,6 +81,16 @@ pub(crate) fn kind_of(byte: u8) -> TokenKind
         b')' => TokenKind::Closes,
         b'*' => TokenKind::Star,
         _ => TokenKind::Word,
+    }
+}
+
+/// The kind of a token.
+pub(crate) fn kind_at(token: &[u8]) -> TokenKind
+    ensures { result ≡ kind_at token.now }
+{
+    match token.split_first() {
+        Some((first, _)) => kind_of(*first),
+        None => TokenKind::Gap,
     }
 }
 
@@ -172,6 +183,7 @@ fn next_part(part: TagPart, byte: u8) -> TagPart
 }
 
 // How many bytes go to the end of a tag pair.
+#[tactic(auto, unfolding(crate::specs::Tokens::tag_from))]
 fn tag_len(more: &[u8]) -> Option<usize>
     ensures value { result ≡ tag_from 0 TagPart.Bare more.now }
     ensures fits { IfSome result (λ n. n ≤ length more.now) }

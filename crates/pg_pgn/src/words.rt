@@ -1,5 +1,5 @@
 //! What the words of a movetext say.
-ghost use Rattle.std.specs.Prelude.{◌≡◌, ◌≤◌, length, OnOk, IsUtf8};
+ghost use Rattle.std.specs.Prelude.{◌≡◌, ◌≤◌, length, OnOk, string_bytes};
 ghost use Rattle.std.specs.List.{prefix_len};
 ghost use Rattle.pg_san.specs.GameText.{digits_len, dots_len, is_dot};
 ghost use Rattle.pg_pgn.specs.Pgn.{without_number, said, is_result, is_mark, is_idle, word_sign};
@@ -44,7 +44,7 @@ fn without_number(word: &[u8]) -> &[u8]
 /// # Errors
 /// Where memory is refused.
 pub(crate) fn write_said(text: &mut String, letters: Letters, word: &[u8]) -> Result<(), AllocError>
-    ensures { OnOk result (text.new.bytes ≡ said letters word.now) }
+    ensures { OnOk result (string_bytes text.new ≡ said letters word.now) }
 {
     write_english(text, letters, without_number(word))
 }
@@ -52,7 +52,7 @@ pub(crate) fn write_said(text: &mut String, letters: Letters, word: &[u8]) -> Re
 fn is_result(text: &[u8]) -> bool
     ensures { result ≡ is_result text.now }
 {
-    matches!(text, b"1-0" | b"0-1" | b"1/2-1/2")
+    text == b"1-0".as_slice() || text == b"0-1".as_slice() || text == b"1/2-1/2".as_slice()
 }
 
 fn is_mark(byte: u8) -> bool

@@ -140,10 +140,12 @@ fn append_further<W: Sink>(games: &PgnGames, out: &mut W) -> Result<(), Refused>
     ensures { MayPush W.held W.has_failed (AddsSome (AreFurther (drop 1 games.now))) out.old out.new result }
 {
     for i in 1..games.len() {
-        if let Some(game) = games.game(i) {
-            out.push(b"\n")?;
-            append_game(game, out)?;
-        }
+        let game = match games.game(i) {
+            Some(game) => game,
+            None => return Ok(()),
+        };
+        out.push(b"\n")?;
+        append_game(game, out)?;
     }
     Ok(())
 }

@@ -1,6 +1,7 @@
 //! Games in PGN.
 
-use pg_pgn::{Letters, PgnFault, PgnGames, fitting, letters_of, name_of, read_pgn};
+use pg_certificate::ToWrite;
+use pg_pgn::{Letters, PgnFault, PgnGames, fitting, letters_of, name_of, read_pgn, write_pgn};
 use pg_position::{Move, Position};
 use pg_san::write;
 use std::alloc::AllocError;
@@ -9,36 +10,26 @@ use std::process::Abort;
 // Rows of a language, a text in which `|` is a line end, and what it is read as.
 const TEXTS: &str = r#"english  -> 0:
 english * -> 1:
-english [Event "a"] -> 1:
 english [Event "a"]|1. e4 e5 * -> 1: e4 e5
 english 1.e4 e5 2.Nf3 {good (or not} Nc6 ; a } comment|3.Bb5 1-0 -> 1: e4 e5 Nf3 Nc6 Bb5
 english 1. e4 $1 e5!? 2 Nf3 (2. f4 exf4 (2... d5 3. exd5) 3. Nf3) 2... Nc6 *1.d4 -> 2: e4 e5 Nf3 Nc6 / d4
 english %hidden {|1. e4|% 1... c5|e5 -> 1: e4 e5
 english [White "A \"B\" ] \\"]||1. e4 1-0||[White "C"]|[Black "D"]|1. d4 [White "E"] -> 3: e4 / d4 /
-english 1. e4 !? d5 2. ed5: Nf6 3. c2-c4 e6 4. dxe6 + ! -> 0: line 1, column 20: game 1, ply 3: ed5: is not a move
-english e4 d5 e:d5 -> 1: e4 d5 exd5
-english e4 a6 e5 d5 exd6 e.p. -> 1: e4 a6 e5 d5 exd6
-english e4 a6 e5 d5 exd6e.p.! -> 1: e4 a6 e5 d5 exd6
-english 1.e4 e5 2.Nf3 Nf6 3.Bc4 Bc5 4.o-o 0-0 -> 1: e4 e5 Nf3 Nf6 Bc4 Bc5 O-O O-O
-english ♙e4 ♟e5 ♘f3 ♞c6 ♗×a6 -> 0: line 1, column 19: game 1, ply 5: ♗×a6 is no legal move
-english e4 d5 e×d5 ♛×d5 ♘c3 ♕d8 -> 0: line 1, column 22: game 1, ply 6: ♕d8 is no legal move
-english e2–e4 d7-d5 -> 1: e4 d5
-english 1. e4 e5 2. Nf3 Nc6 3. Nd2 -> 0: line 1, column 24: game 1, ply 5: Nd2 is no legal move
-english e4|e5 * d4|d5|Nd2 * -> 0: line 4, column 1: game 2, ply 3: Nd2 is no legal move
-english Nf3 a6 Nc3 a5 Nd4 a4 Nb5 h6 Nxa7 -> 1: Nf3 a6 Nc3 a5 Nd4 a4 Nb5
-english Nf3 a6 Nc3 a5 Nd4 a4 Nb5 h6 Na3 h5 N1c4 -> 1: Nf3 a6
-english [FEN "8/8"] -> 0: line 1, column 1: game 1: the tag FEN sets up a position
+english [SetUp "0"] e4 d5 e:d5 ! e6 dxe6 + -> 1: e4 d5 exd5 e6 dxe6
+english e4 a6 e5 d5 exd6 e.p. h6 -> 1: e4 a6 e5 d5 exd6 h6
+english 1.e4 e5 2.Nf3 Nf6 3.Bc4 Bc5 4.o-o 0-0 1/2-1/2 -> 1: e4 e5 Nf3 Nf6 Bc4 Bc5 O-O O-O
+english ♙e2–e4 ♟e5 ♘f3 ♞c6 ♗×a6 -> 0: line 1, column 20: game 1, ply 5: ♗×a6 is no legal move
+english e4|e5 * d4|d5|Nb2 * -> 0: line 4, column 1: game 2, ply 3: Nb2 is no legal move
+english Nf3 a6 Nc3 a5 Nd4 a4 Nb5 -> 0: line 1, column 22: game 1, ply 7: Nb5 is ambiguous
 english e4 *|[SetUp "1"] -> 0: line 2, column 1: game 2: the tag SetUp sets up a position
-english [SetUp "0"] e4 -> 1: e4
+english [FEN "8/8"] -> 0: line 1, column 1: game 1: the tag FEN sets up a position
 english e4 {open -> 0: line 1, column 4: game 1: a comment is not closed
-english [Event "open] -> 0: line 1, column 1: game 1: a tag pair is not closed
 english [Event "open|] -> 0: line 1, column 1: game 1: a tag pair is not closed
-english e4 (d4 -> 0: line 1, column 7: game 1: a variation is not closed
 english e4 (d4 [Event "a"] -> 0: line 1, column 8: game 1: a variation is not closed
+english e4 (d4 -> 0: line 1, column 7: game 1: a variation is not closed
 english e4 ) -> 0: line 1, column 4: game 1: a bracket closes nothing
-german e4 e5 Sf3 Sc6 Lb5 a6 Lxc6 dxc6 Sxe5 Dd4 0-0 Dxe5 Te1 Dxe1 -> 1: e4 e5 Nf3 Nc6 Bb5 a6 Bxc6 dxc6 Nxe5 Qd4 O-O Qxe5 Re1 Qxe1+
-german e4 e5 Nf3 -> 0: line 1, column 7: game 1, ply 3: Nf3 is not a move
-french e4 e5 Cf3 Cc6 Fb5 a6 Fxc6 dxc6 Cxe5 Dd4 Cf3 Dxe4 Re2 -> 0: line 1, column 52: game 1, ply 13: Re2 is no legal move
+german e4 e5 Sf3 Sc6 Lb5 De7 Nf3 -> 0: line 1, column 23: game 1, ply 7: Nf3 is not a move
+french e4 e5 Cf3 Cc6 Fb5 Dh4 Fxc6 Dxe4 Rf1 -> 1: e4 e5 Nf3 Nc6 Bb5 Qh4 Bxc6 Qxe4+ Kf1
 dutch e4 e5 Pf3 Pc6 Lb5 -> 1: e4 e5 Nf3 Nc6 Bb5
 spanish e4 e5 Cf3 Cc6 Ab5 -> 1: e4 e5 Nf3 Nc6 Bb5
 italian e4 e5 Cf3 Cc6 Ab5 -> 1: e4 e5 Nf3 Nc6 Bb5
@@ -106,4 +97,69 @@ fn texts_are_read(rt: HostRuntime) {
     for row in TEXTS.lines() {
         check_row(&rt, row);
     }
+}
+
+// Rows of the language that is said to fit, and a text.
+const LANGUAGES: &str = "german e4 e5 Dh5
+dutch e4 e5 Pf3 Lc5
+spanish e4 e5 Cf3 Ac5
+french e4 e5 Cf3 Fc5
+english e4 e5 Nf3
+english e4 e5 Xf3";
+
+fn check_language<R: Abort + AllocGlobal>(rt: &R, row: &str) {
+    let (wanted, text) = row.split_once(' ').expect(rt, row);
+    let letters = match fitting(rt.alloc(), text.as_bytes()) {
+        Some(letters) => letters,
+        None => Letters::English,
+    };
+    assert_eq!(rt; name_of(letters), wanted);
+}
+
+#[test]
+fn languages_that_fit(rt: HostRuntime) {
+    for row in LANGUAGES.lines() {
+        check_language(&rt, row);
+    }
+}
+
+// Two games, and how they are written.
+const GAMES: &str =
+    "1.e4 e5 2.Nf3 Nc6 3.Bb5 a6 4.Ba4 Nf6 5.O-O Be7 6.Re1 b5 7.Bb3 d6 8.c3 O-O 9.h3 * *";
+
+const WRITTEN: &str = r#"[Event "?"]
+[Site "?"]
+[Date "????.??.??"]
+[Round "?"]
+[White "?"]
+[Black "?"]
+[Result "*"]
+
+1. e4 e5 2. Nf3 Nc6 3. Bb5 a6 4. Ba4 Nf6 5. O-O Be7 6. Re1 b5 7. Bb3 d6 8. c3
+O-O 9. h3 *
+
+[Event "?"]
+[Site "?"]
+[Date "????.??.??"]
+[Round "?"]
+[White "?"]
+[Black "?"]
+[Result "*"]
+
+*
+"#;
+
+fn check_written<R: Abort + AllocGlobal>(rt: &R, text: &str, wanted: &str) {
+    let Ok(games) = read_pgn(rt.alloc(), text.as_bytes(), Letters::English) else {
+        panic!(rt; "no games");
+    };
+    let mut out = ToWrite::new(Vec::new(rt.alloc()));
+    assert!(rt; write_pgn(&games, &mut out).is_ok());
+    let bytes = out.into_inner();
+    assert!(rt; bytes.as_slice() == wanted.as_bytes());
+}
+
+#[test]
+fn games_are_written(rt: HostRuntime) {
+    check_written(&rt, GAMES, WRITTEN);
 }
