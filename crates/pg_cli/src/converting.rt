@@ -16,7 +16,7 @@ use crate::checking::finished;
 use crate::refusals::{DONE, Named, Refusal};
 use crate::spelling::text_of;
 use clap::ArgMatches;
-use pg_files::{INPUT, is_input, list};
+use pg_files::{is_input, list};
 use pg_pgn::{Letters, letters_of, read_pgn, write_ends, write_list};
 use pg_report::{Refused, RunFault, Sink, ToWrite};
 use pg_san::read_games;
@@ -129,7 +129,7 @@ fn typed<R: Runtime + AllocGlobal>(rt: &R, words: &ArgMatches<'_>) -> Result<Vec
     if !is_input(moves) {
         return Ok(Vec::from_slice(rt.alloc(), moves.as_bytes())?);
     }
-    match list(rt, INPUT) {
+    match list(rt, moves) {
         Ok(text) => Ok(text),
         Err(fault) => Err(Refusal::of_file(fault, Named::Games)),
     }

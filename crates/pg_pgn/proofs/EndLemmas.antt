@@ -1,6 +1,6 @@
 -- Lines on games grow by those on one game more, and a game goes on to its end. Leads to the contracts of write_list and write_ends.
 use Rattle.std.proofs.Common.{◌≡◌, ℕ, ◌+◌, ◌<◌, ◌≤◌, List, [], ◌∷◌, ◌++◌, Option, Some, length, get_or, take, drop, refl, sym, ap, subst, append_assoc, append-nil, add-one, suc, drop-cons, inl, inr, arith, ◌∙◌}
-use Rattle.std.specs.Prelude.{slice_get}
+use Rattle.std.specs.Prelude.{slice_get, codes, ◌/◌}
 use Rattle.std.proofs.KnownBytes.{Appends-nil, Appends-trans}
 use Rattle.std.proofs.lemmas.List.{take_more, take_all, drop_all}
 use Rattle.std.proofs.lemmas.Option.{get_or_from_slice_get}
@@ -14,7 +14,12 @@ use Rattle.pg_position.specs.Step.{Legal, IsLegal}
 use Rattle.pg_position.specs.Game.{IsGame}
 use Rattle.pg_position.proofs.FutureLemmas.{one_result}
 use Rattle.pg_san.specs.Games.{IsFromArray}
-use Rattle.pg_pgn.specs.Ends.{AreEndTexts, IsEndText, IsStillAfter, Plays}
+use Rattle.pg_fen.specs.Lengths.{length_text}
+use Rattle.pg_fen.specs.PlacementText.{placement_text}
+use Rattle.pg_fen.specs.PositionWriting.{position_text}
+use Rattle.pg_texts.specs.Movetext.{IsMovetext}
+use Rattle.pg_texts.specs.Report.{AddsLine, labelled_text, line_text}
+use Rattle.pg_pgn.specs.Ends.{AreEndTexts, IsEndText, IsStillAfter, Plays, last_of, number}
 
 ends_more : (games : List (List Move)) (g : List Move) (text one : List ℕ) → AreEndTexts games text → IsEndText g one → AreEndTexts (games ++ g ∷ []) (text ++ one)
 unfolding AreEndTexts
@@ -87,3 +92,19 @@ pub lasts_end : (game : List Move) (i n : ℕ) (p : State) → length game ≤ i
 unfolding Plays
 lasts_end game i n p past h =
     h.on p n (subst (λ (v : List Move). Plays p n v p n) (sym (drop_all i game past)) (refl, refl))
+
+-- the four lines on a game make its text
+pub end_lines : (game : List Move) (x y z : List ℕ) (last : State) (still half full : ℕ) (a b c d e : Option (List ℕ)) → Plays array_state 0 game last still → x ≡ placement_text last.board → y ≡ length_text (length game)
+    → z ≡ position_text (record { position = last; half = half; full = full }) → half ≡ number still → full ≡ number (length game / 2 + 1) → AddsLine (IsMovetext game) a b → Appends b c (labelled_text (codes "diagram ") x)
+    → Appends c d (labelled_text (codes "length ") y) → Appends d e (labelled_text (codes "fen ") z) → AddsSome (IsEndText game) a e
+end_lines game x y z last still half full a b c d e plays is_x is_y is_z is_half is_full (moves, is, p) q r s =
+    let q2 : Appends b c (labelled_text (codes "diagram ") (placement_text last.board)) = subst (λ (t : List ℕ). Appends b c (labelled_text (codes "diagram ") t)) is_x q in
+    let r2 : Appends c d (labelled_text (codes "length ") (length_text (length game))) = subst (λ (t : List ℕ). Appends c d (labelled_text (codes "length ") t)) is_y r in
+    let z2 : z ≡ position_text (last_of last still (length game)) = is_z ∙ ap (λ (n : ℕ). position_text (record { position = last; half = n; full = full })) is_half ∙ ap (λ (n : ℕ). position_text (record { position = last; half = number still; full = n })) is_full in
+    let s2 : Appends d e (labelled_text (codes "fen ") (position_text (last_of last still (length game)))) = subst (λ (t : List ℕ). Appends d e (labelled_text (codes "fen ") t)) z2 s in
+    let below : Appends c e (labelled_text (codes "length ") (length_text (length game)) ++ labelled_text (codes "fen ") (position_text (last_of last still (length game)))) = Appends-trans c d e _ _ r2 s2 in
+    let three : Appends b e (labelled_text (codes "diagram ") (placement_text last.board) ++ (labelled_text (codes "length ") (length_text (length game)) ++ labelled_text (codes "fen ") (position_text (last_of last still (length game))))) = Appends-trans b c e _ _ q2 below in (
+      line_text moves ++ (labelled_text (codes "diagram ") (placement_text last.board) ++ (labelled_text (codes "length ") (length_text (length game)) ++ labelled_text (codes "fen ") (position_text (last_of last still (length game))))),
+      record { moves = moves; last = last; still = still; is_movetext = is; plays = plays; is = refl },
+      Appends-trans a b e (line_text moves) _ p three,
+    )
