@@ -1,5 +1,5 @@
 -- Games that are read are legal from the initial array.
-use Rattle.std.proofs.Common.{◌≡◌, ℕ, ◌+◌, ◌-◌, ◌<◌, ◌≤◌, inl, inr, Bool, true, false, List, [], ◌∷◌, ◌++◌, length, refl, sym, ap, subst, ◌∙◌, arith}
+use Rattle.std.proofs.Common.{◌≡◌, ℕ, ◌<◌, inl, inr, Bool, true, false, List, [], ◌∷◌, ◌++◌, length, refl, sym, ap, subst, ◌∙◌, arith}
 use Rattle.std.specs.Prelude.{All, Result as Outcome, Ok, Err, OnOk, map, get_or, ltb, if◌then◌else◌, ◌==◌, ◌||◌, nat_lt}
 use Rattle.std.proofs.lemmas.List.Elements.{All-push}
 use Rattle.std.proofs.lemmas.List.{length-map}
@@ -15,7 +15,7 @@ use Rattle.pg_san.specs.Matching.{IsReading}
 use Rattle.pg_pgn.specs.declared.letters.Letters.{Letters}
 use Rattle.pg_pgn.specs.declared.signs.Sign.{Sign}
 use Rattle.pg_pgn.specs.declared.signs.Sign.TheVariants.{Nothing, Heads, Fen, SetUp, Opening, Closing, Result, Moves}
-use Rattle.pg_pgn.specs.Pgn.{Reader, at_game, at_depth, at_head, ended, head, moved, sign_of, said, Goes, Lead, IsRead, all_games}
+use Rattle.pg_pgn.specs.Pgn.{Reader, at_game, at_head, ended, head, moved, sign_of, said, Goes, Lead, IsRead, all_games}
 use Rattle.pg_pgn.specs.Steps.{AreLegal}
 
 none_legal : AreLegal (at_game [] false)

@@ -4,3 +4,6 @@ pub mod FaultLemmas
 pub mod LegalLemmas
 pub mod KnownLemmas
 pub mod WritingLemmas
+pub mod SanBytes
+pub mod RoundLemmas
+pub mod RoundTexts

@@ -1,0 +1,12 @@
+//! Laws of games in PGN, each the contract of a function that does nothing.
+ghost use Rattle.std.specs.Prelude.{ℕ, List};
+ghost use Rattle.pg_position.specs.declared.moves.Move.{Move};
+ghost use Rattle.pg_pgn.specs.declared.letters.Letters.TheVariants as Letters;
+ghost use Rattle.pg_pgn.specs.Pgn.{IsFile};
+ghost use Rattle.pg_pgn.specs.Writing.{IsPgnText, AreShort};
+
+/// The text that is written of games is read as these games.
+pub fn written_games_are_read()
+    ensures { (games : List (List Move)) (text : List ℕ) → AreShort games → IsPgnText games text
+        → IsFile Letters.English text games }
+{}
