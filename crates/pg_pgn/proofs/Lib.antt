@@ -7,3 +7,4 @@ pub mod WritingLemmas
 pub mod SanBytes
 pub mod RoundLemmas
 pub mod RoundTexts
+pub mod OneLemmas

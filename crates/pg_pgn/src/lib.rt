@@ -20,7 +20,7 @@ mod writing;
 pub use fault::{FormFault, PgnFault};
 pub use games::PgnGames;
 pub use languages::{fitting, letters_of, name_of};
-pub use laws::written_games_are_read;
+pub use laws::{one_file_of_games, written_games_are_read};
 pub use letters::Letters;
 pub use reading::read_pgn;
 pub use writing::{write_game, write_pgn};

@@ -1,0 +1,5 @@
+use Rattle.pg_pgn.proofs.OneLemmas.{one_file}
+use Rattle.pg_pgn.proofs.laws.one_file_of_games.Goals as goal
+
+pub returns : goal.returns
+returns c = one_file
