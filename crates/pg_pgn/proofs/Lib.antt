@@ -8,3 +8,4 @@ pub mod SanBytes
 pub mod RoundLemmas
 pub mod RoundTexts
 pub mod OneLemmas
+pub mod ApartLemmas

@@ -1,29 +1,28 @@
 -- A text has one file of games.
-use Rattle.std.proofs.Common.{◌≡◌, ℕ, ◌+◌, ◌<◌, inl, inr, List, [], ◌∷◌, Option, Some, None, length, take, drop, get_or, refl, sym, ap, subst, ◌∙◌, arith}
-use Rattle.std.specs.Prelude.{Ok, false}
+use Rattle.std.proofs.Common.{◌≡◌, ℕ, ◌+◌, inl, inr, List, [], ◌∷◌, Option, Some, None, length, take, drop, get_or, refl, sym, ap, subst, ◌∙◌, arith}
+use Rattle.std.specs.Prelude.{false}
 use Rattle.pg_position.specs.declared.state.State.{State}
 use Rattle.pg_position.specs.declared.moves.Move.{Move}
 use Rattle.pg_position.specs.Array.{array_state}
 use Rattle.pg_position.specs.Game.{IsGame}
 use Rattle.pg_position.specs.Position.{IsPosition}
-use Rattle.pg_position.specs.Step.{Legal, IsLegal}
+use Rattle.pg_position.specs.Step.{Legal}
 use Rattle.pg_position.proofs.ArrayLemmas.{array_position}
 use Rattle.pg_position.proofs.FutureLemmas.{one_result, legal_position}
-use Rattle.pg_san.specs.Matching.{IsReading}
 use Rattle.pg_pgn.specs.declared.letters.Letters.{Letters}
 use Rattle.pg_pgn.specs.declared.signs.Sign.{Sign}
 use Rattle.pg_pgn.specs.declared.signs.Sign.TheVariants.{Nothing, Heads, Fen, SetUp, Opening, Closing, Moves}
 use Rattle.pg_pgn.specs.declared.signs.Sign.TheVariants.{Result as Ended}
 use Rattle.pg_pgn.specs.Tokens.{StartsWith, AreTokens, body, more_len, kind_of}
-use Rattle.pg_pgn.specs.Pgn.{Reader, at_game, moved, sign_of, said, Goes, Lead, IsRead, IsFile, all_games}
+use Rattle.pg_pgn.specs.Pgn.{Reader, at_game, moved, sign_of, said, Goes, Lead, IsFile, all_games}
 use Rattle.pg_pgn.specs.Steps.{AreLegal}
 use Rattle.pg_pgn.proofs.LegalLemmas.{none_legal, goes_legal}
 
 -- ---- tokens
-head_same : (a b : ℕ) (xs ys : List ℕ) → a ∷ xs ≡ b ∷ ys → a ≡ b
+pub head_same : (a b : ℕ) (xs ys : List ℕ) → a ∷ xs ≡ b ∷ ys → a ≡ b
 head_same a b xs ys e = ap (λ (l : List ℕ). get_or l 0 0) e
 
-tail_same : (a b : ℕ) (xs ys : List ℕ) → a ∷ xs ≡ b ∷ ys → xs ≡ ys
+pub tail_same : (a b : ℕ) (xs ys : List ℕ) → a ∷ xs ≡ b ∷ ys → xs ≡ ys
 tail_same a b xs ys e = ap (λ (l : List ℕ). drop 1 l) e
 
 some_or : Option ℕ → ℕ
@@ -43,14 +42,14 @@ same_start text a x b y h k =
     let l : more_len (kind_of h.first) h.more ≡ more_len (kind_of k.first) k.more = ap (λ (c : ℕ). more_len (kind_of c) h.more) f ∙ ap (λ (l : List ℕ). more_len (kind_of k.first) l) m in
     (f, m, some_same h.n k.n (sym h.long ∙ l ∙ k.long))
 
-one_token : (text a x b y : List ℕ) → StartsWith text a x → StartsWith text b y → (a ≡ b) × (x ≡ y)
+pub one_token : (text a x b y : List ℕ) → StartsWith text a x → StartsWith text b y → (a ≡ b) × (x ≡ y)
 one_token text a x b y h k =
     let (f, m, n) = same_start text a x b y h k in (
       h.token_is ∙ ap (λ (c : ℕ). c ∷ take h.n h.more) f ∙ ap (λ (l : List ℕ). k.first ∷ take h.n l) m ∙ ap (λ (i : ℕ). k.first ∷ take i k.more) n ∙ sym k.token_is,
       h.rest_is ∙ ap (λ (l : List ℕ). drop h.n l) m ∙ ap (λ (i : ℕ). drop i k.more) n ∙ sym k.rest_is,
     )
 
-none_starts : (text a x : List ℕ) → text ≡ [] → StartsWith text a x → ⊥
+pub none_starts : (text a x : List ℕ) → text ≡ [] → StartsWith text a x → ⊥
 none_starts text a x none h =
     let l : length text ≡ 0 = ap length none in
     let k : length text ≡ length h.more + 1 = ap length h.is ∙ omega arith in
@@ -92,7 +91,7 @@ one_step Moves r s t text l (inr (d, (m, q, reads, legal, e))) (inr (d2, (n, x, 
     let one : q ≡ x = one_result r.here m q x (game_position array_state r.moves r.here array_position l.moves) legal there in
     e ∙ ap (λ (y : State). moved r m y) one ∙ ap (λ (y : Move). moved r y x) (sym same) ∙ sym e2
 
-one_way : (letters : Letters) (r s t : Reader) (ts : List (List ℕ)) → AreLegal r → Lead letters r ts s → Lead letters r ts t → s ≡ t
+pub one_way : (letters : Letters) (r s t : Reader) (ts : List (List ℕ)) → AreLegal r → Lead letters r ts s → Lead letters r ts t → s ≡ t
 unfolding Lead
 one_way letters r s t [] l h k = h ∙ sym k
 one_way letters r s t (x ∷ xs) l h k =
