@@ -2,7 +2,6 @@
 use Rattle.std.proofs.Common.{◌≡◌, ℕ, ◌+◌, ◌<◌, inl, inr, List, [], length, refl, sym, subst, ◌∙◌}
 use Rattle.std.specs.Prelude.{Result as Outcome, Ok, Err, IfErr}
 use Rattle.pg_san.specs.declared.fault.SanFault.{SanFault}
-use Rattle.pg_san.specs.Matching.{IsReading}
 use Rattle.pg_pgn.specs.declared.letters.Letters.{Letters}
 use Rattle.pg_pgn.specs.declared.fault.PgnFault.{PgnFault}
 use Rattle.pg_pgn.specs.declared.fault.PgnFault.TheVariants as Told

@@ -1,5 +1,5 @@
 -- Games that are read are legal from the initial array.
-use Rattle.std.proofs.Common.{◌≡◌, ℕ, ◌+◌, ◌-◌, ◌<◌, ◌≤◌, inl, inr, Bool, true, false, List, [], ◌∷◌, ◌++◌, length, refl, sym, ap, subst, ◌∙◌, arith}
+use Rattle.std.proofs.Common.{◌≡◌, ℕ, ◌<◌, inl, inr, Bool, true, false, List, [], ◌∷◌, ◌++◌, length, refl, sym, ap, subst, ◌∙◌, arith}
 use Rattle.std.specs.Prelude.{All, Result as Outcome, Ok, Err, OnOk, map, get_or, ltb, if◌then◌else◌, ◌==◌, ◌||◌, nat_lt}
 use Rattle.std.proofs.lemmas.List.Elements.{All-push}
 use Rattle.std.proofs.lemmas.List.{length-map}
@@ -15,10 +15,10 @@ use Rattle.pg_san.specs.Matching.{IsReading}
 use Rattle.pg_pgn.specs.declared.letters.Letters.{Letters}
 use Rattle.pg_pgn.specs.declared.signs.Sign.{Sign}
 use Rattle.pg_pgn.specs.declared.signs.Sign.TheVariants.{Nothing, Heads, Fen, SetUp, Opening, Closing, Result, Moves}
-use Rattle.pg_pgn.specs.Pgn.{Reader, at_game, at_depth, at_head, ended, head, moved, sign_of, said, Goes, Lead, IsRead, all_games}
+use Rattle.pg_pgn.specs.Pgn.{Reader, at_game, at_head, ended, head, moved, sign_of, said, Goes, Lead, IsRead, all_games}
 use Rattle.pg_pgn.specs.Steps.{AreLegal}
 
-none_legal : AreLegal (at_game [] false)
+pub none_legal : AreLegal (at_game [] false)
 none_legal = record { games = λ k d low. absurd (omega (arith, low)); moves = refl }
 
 ended_legal : (r : Reader) → AreLegal r → All IsFromArray (ended r)
@@ -46,7 +46,7 @@ all_by false r l = l.games
 pub all_legal : (r : Reader) → AreLegal r → All IsFromArray (all_games r)
 all_legal r l = all_by (r.headed || nat_lt 0 (length r.moves)) r l
 
-goes_legal : (sign : Sign) (r s : Reader) (text : List ℕ) → AreLegal r → Goes sign r text s → AreLegal s
+pub goes_legal : (sign : Sign) (r s : Reader) (text : List ℕ) → AreLegal r → Goes sign r text s → AreLegal s
 unfolding Goes
 goes_legal Nothing r s text l goes = subst AreLegal (sym goes) l
 goes_legal Opening r s text l goes = subst AreLegal (sym goes) (record { games = l.games; moves = l.moves })

@@ -5,3 +5,8 @@ pub mod LegalLemmas
 pub mod KnownLemmas
 mod EndLemmas
 pub mod WritingLemmas
+pub mod SanBytes
+pub mod RoundLemmas
+pub mod RoundTexts
+pub mod OneLemmas
+pub mod ApartLemmas

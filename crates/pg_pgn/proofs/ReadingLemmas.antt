@@ -1,5 +1,5 @@
 -- A text is read one token at a time.
-use Rattle.std.proofs.Common.{◌≡◌, ℕ, ◌+◌, ◌-◌, ◌<◌, ◌≤◌, inl, inr, Bool, true, false, List, [], ◌∷◌, ◌++◌, length, length-drop, refl, sym, ap, subst, arith, ◌∙◌}
+use Rattle.std.proofs.Common.{◌≡◌, ℕ, ◌+◌, ◌-◌, ◌≤◌, inl, inr, Bool, true, false, List, [], ◌∷◌, ◌++◌, length, length-drop, refl, sym, ap, subst, arith, ◌∙◌}
 use Rattle.std.specs.Prelude.{Result, Ok, Err, OnOk, IfOk, IfErr, ◌==◌, if◌then◌else◌}
 use Rattle.pg_position.specs.declared.moves.Move.{Move}
 use Rattle.pg_pgn.specs.declared.letters.Letters.{Letters}

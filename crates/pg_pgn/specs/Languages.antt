@@ -1,5 +1,5 @@
 -- Languages by their names, and texts that are read by the letters of one.
-use Rattle.std.specs.Prelude.{◌≡◌, ◌≢◌, ℕ, List, codes}
+use Rattle.std.specs.Prelude.{◌≢◌, ℕ, List, codes}
 use Rattle.pg_position.specs.declared.moves.Move.{Move}
 use Rattle.pg_pgn.specs.declared.letters.Letters.{Letters}
 use Rattle.pg_pgn.specs.declared.letters.Letters.TheVariants.{English, German, French, Dutch, Spanish, Italian}

@@ -1,5 +1,5 @@
 -- The games of a text in PGN (the import format of the PGN standard, sections 7 and 8), and its first fault.
-use Rattle.std.specs.Prelude.{◌≡◌, ◌≢◌, ℕ, ◌+◌, ◌-◌, ◌<◌, ◌⊎◌, Bool, true, false, ◌||◌, ◌==◌, nat_lt, List, [], ◌∷◌, ◌++◌, length, drop, take, Ok, Err, if◌then◌else◌, codes}
+use Rattle.std.specs.Prelude.{◌≡◌, ℕ, ◌+◌, ◌-◌, ◌<◌, ◌⊎◌, Bool, true, false, ◌||◌, ◌==◌, nat_lt, List, [], ◌∷◌, ◌++◌, length, drop, take, Ok, Err, if◌then◌else◌, codes}
 use Rattle.std.specs.List.{prefix_len}
 use Rattle.std.specs.Str.{bytes_eq}
 use Prim.Native.Char.{code}
@@ -119,7 +119,8 @@ Goes SetUp r text s = ⊥
 Goes Result r text s = ((0 < r.depth) × (s ≡ r)) ⊎ ((r.depth ≡ 0) × (s ≡ at_game (ended r) false))
 Goes Moves r text s =
     ((0 < r.depth) × (s ≡ r))
-    ⊎ ((r.depth ≡ 0) × ((m : Move) × (next : State) × IsReading r.here text (Ok m) × Legal r.here m next × (s ≡ moved r m next)))
+    ⊎ ((r.depth ≡ 0) × ((m : Move) × (next : State) × IsReading r.here text (Ok m) × Legal r.here m next
+    × (s ≡ moved r m next)))
 
 -- the tokens lead a reader from here to there
 unfoldable pub Lead : Letters → Reader → List (List ℕ) → Reader → Type 0
@@ -147,8 +148,8 @@ abbrev pub IsPlace : List ℕ → List ℕ → ℕ → ℕ → Type 0
 IsPlace text rest line column =
     (line ≡ line_from 1 (before (without_mark text) rest)) × (column ≡ column_from 1 (before (without_mark text) rest))
 
--- a token that says this, or the end of the text, is at fault: a tag pair in a variation, or one that sets up a position;
--- a `)` where no variation is open
+-- a token that says this is at fault: a tag pair in a variation, or one that sets up a position; a `)` where no variation
+-- is open
 abbrev pub IsSignFault : Sign → Reader → FormFault → Type 0
 IsSignFault Heads r f = (0 < r.depth) × (f ≡ Fault.Variation)
 IsSignFault Fen r f = ((0 < r.depth) × (f ≡ Fault.Variation)) ⊎ ((r.depth ≡ 0) × (f ≡ Fault.Fen))
@@ -180,4 +181,5 @@ IsFaultAt letters text r rest (Form line column game fault) =
     IsPlace text rest line column × (game ≡ length r.games + 1) × IsFormFault letters r rest fault
 
 unfoldable pub IsFirstFault : Letters → List ℕ → PgnFault → Type 0
-IsFirstFault letters text fault = (r : Reader) × (rest : List ℕ) × IsRead letters text r rest × IsFaultAt letters text r rest fault
+IsFirstFault letters text fault =
+    (r : Reader) × (rest : List ℕ) × IsRead letters text r rest × IsFaultAt letters text r rest fault

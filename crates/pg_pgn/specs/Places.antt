@@ -1,5 +1,5 @@
 -- Lines and columns of a text, counted from 1.
-use Rattle.std.specs.Prelude.{ℕ, ◌+◌, ◌-◌, Bool, true, false, ◌||◌, ◌&&◌, ◌==◌, not, nat_lt, List, [], ◌∷◌, length, take, if◌then◌else◌}
+use Rattle.std.specs.Prelude.{ℕ, ◌+◌, ◌-◌, Bool, false, ◌||◌, ◌&&◌, ◌==◌, not, nat_lt, List, [], ◌∷◌, length, take, if◌then◌else◌}
 use Prim.Native.Char.{code}
 
 -- `\n`, `\r\n` and `\r` end a line: at a `\r` with `\n` behind it the line ends behind that

@@ -1,6 +1,5 @@
 -- What the steps of reading a file of games say.
 use Rattle.std.specs.Prelude.{◌≡◌, ℕ, ◌⊎◌, List, map, Err, All}
-use Rattle.pg_san.specs.declared.fault.SanFault.{SanFault}
 use Rattle.pg_position.specs.Array.{array_state}
 use Rattle.pg_position.specs.Game.{IsGame}
 use Rattle.pg_san.specs.Games.{IsFromArray}

@@ -1,5 +1,5 @@
 -- How a text in PGN is cut into tokens (the PGN standard, section 7). Each byte begins a token of one kind.
-use Rattle.std.specs.Prelude.{◌≡◌, ◌≢◌, ℕ, ◌+◌, Bool, true, false, ◌||◌, ◌&&◌, ◌==◌, not, nat_lt, List, [], ◌∷◌, Option, Some, None, length, take, drop, if◌then◌else◌, codes}
+use Rattle.std.specs.Prelude.{◌≡◌, ℕ, ◌+◌, Bool, true, false, ◌||◌, ◌==◌, not, nat_lt, List, [], ◌∷◌, Option, Some, None, length, take, drop, if◌then◌else◌}
 use Rattle.std.specs.List.{prefix_len}
 use Rattle.std.specs.Str.{bytes_eq}
 use Rattle.std.specs.Char.{is_ascii_digit}
@@ -57,7 +57,8 @@ hidden_len (b ∷ more) = if b == code "%" then 1 + prefix_len is_in_line more e
 
 -- up to the `}` that ends a comment, and with it
 abbrev pub comment_len : List ℕ → Option ℕ
-comment_len more = if nat_lt (prefix_len is_inside more) (length more) then Some (prefix_len is_inside more + 1) else None
+comment_len more =
+    if nat_lt (prefix_len is_inside more) (length more) then Some (prefix_len is_inside more + 1) else None
 
 -- ---- tag pairs
 -- in a tag pair `"` begins and ends a string, in which `\` takes the byte behind it along, and which no line end may

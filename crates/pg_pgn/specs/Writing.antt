@@ -1,6 +1,6 @@
 -- Games as they are written in PGN (the export format of the PGN standard, section 8): the seven tags of which nothing is
 -- known, an empty line, and the movetext in lines below 80 columns.
-use Rattle.std.specs.Prelude.{◌≡◌, ℕ, ◌+◌, ◌/◌, ◌%◌, ◌==◌, nat_lt, List, [], ◌∷◌, ◌++◌, Option, length, take, codes, if◌then◌else◌}
+use Rattle.std.specs.Prelude.{◌≡◌, ℕ, ◌+◌, ◌/◌, ◌%◌, ◌^◌, ◌<◌, ◌==◌, nat_lt, List, [], ◌∷◌, ◌++◌, Option, length, take, codes, if◌then◌else◌}
 use Rattle.std.specs.Fmt.{decimal}
 use Rattle.std.specs.Io.KnownBytes.{Appends}
 use Rattle.pg_certificate.specs.Pushing.{AddsSome}
@@ -64,6 +64,11 @@ unfoldable pub IsPgnText : List (List Move) → List ℕ → Type 0
 IsPgnText [] text = text ≡ []
 IsPgnText (g ∷ gs) text =
     (own : List ℕ) × (rest : List ℕ) × IsGameText g own × AreFurther gs rest × (text ≡ own ++ rest)
+
+-- no game has 2 ^ 63 moves or more
+unfoldable pub AreShort : List (List Move) → Type 0
+AreShort [] = Unit {0}
+AreShort (g ∷ gs) = (length g < 2 ^ 63) × AreShort gs
 
 -- ---- what a sink holds more
 -- a move is appended behind n columns, with its number, where it has one; k columns are behind it

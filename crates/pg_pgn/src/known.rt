@@ -148,8 +148,8 @@ fn read_new(
     }
 }
 
-/// The one legal move that a text names, as `read` has it, and goes on to where it leads: by what is known, which grows,
-/// or by reading. Room of any length will do, also none.
+/// The one legal move that a text names, as `read` has it, and goes on to where it leads: by what is known, which
+/// grows, or by reading. Room of any length will do, also none.
 pub(crate) fn read_known(
     known: &mut [Known],
     here: &mut Position,
@@ -170,8 +170,8 @@ pub(crate) fn read_known(
     read_new(known, place, here, text)
 }
 
-/// Room for what is known of a text of this length: none of a short one, whose games are too few to pay for it, and none
-/// where memory is refused.
+/// Room for what is known of a text of this length: none of a short one, whose games are too few to pay for it, and
+/// none where memory is refused.
 pub(crate) fn room(alloc: Global, length: usize) -> Vec<Known>
     ensures { All IsKnown result.items }
 {

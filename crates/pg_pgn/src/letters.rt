@@ -1,6 +1,7 @@
 //! Words in the letters of a language, as they are written in English.
 ghost use Rattle.std.specs.Prelude.{◌≡◌, ◌++◌, OnOk, string_bytes, ◌<◌};
-ghost use Rattle.pg_pgn.specs.Letters.{is_man, translated, letter, figurine, dash, behind_226, behind_195, written, english};
+ghost use Rattle.pg_pgn.specs.Letters.{is_man, translated, letter, figurine};
+ghost use Rattle.pg_pgn.specs.Letters.{dash, behind_226, behind_195, written, english};
 
 use std::alloc::AllocError;
 

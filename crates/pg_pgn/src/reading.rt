@@ -4,7 +4,8 @@ ghost use Rattle.pg_pgn.specs.Tokens.{StartsWith, without_mark};
 ghost use Rattle.pg_pgn.specs.declared.fault.PgnFault.TheVariants as PgnFault;
 ghost use Rattle.pg_pgn.specs.declared.signs.Sign.TheVariants as Sign;
 ghost use Rattle.pg_pgn.specs.declared.reading.Cause.TheVariants as Cause;
-ghost use Rattle.pg_pgn.specs.Pgn.{said, sign_of, tag_sign, word_sign, Goes, at_game, ended, head, moved, all_games, IsFile, IsFirstFault};
+ghost use Rattle.pg_pgn.specs.Pgn.{said, sign_of, tag_sign, word_sign, Goes, at_game};
+ghost use Rattle.pg_pgn.specs.Pgn.{ended, head, moved, all_games, IsFile, IsFirstFault};
 ghost use Rattle.pg_pgn.specs.KnownReadings.{IsKnown};
 ghost use Rattle.pg_pgn.specs.Steps.{at, AreLegal, IsCause, IsOfTag, IsOpen, Tells, open_fault};
 
@@ -185,7 +186,8 @@ fn step_word(
     ensures known { All IsKnown known.new }
     ensures ok { OnOk result (Goes (word_sign (said letters token.now)) (at reading.old) (said letters token.now)
         (at reading.new)) }
-    ensures err { IfErr result (IsCause (word_sign (said letters token.now)) (at reading.old) (said letters token.now)) }
+    ensures err { IfErr result
+        (IsCause (word_sign (said letters token.now)) (at reading.old) (said letters token.now)) }
 {
     if reading.depth > 0 {
         return Ok(());
@@ -209,7 +211,8 @@ fn step(
     requires depth { reading.old.depth < 18446744073709551615 }
     requires known { All IsKnown known.old }
     ensures known { All IsKnown known.new }
-    ensures ok { OnOk result (Goes (sign_of letters token.now) (at reading.old) (said letters token.now) (at reading.new)) }
+    ensures ok { OnOk result
+        (Goes (sign_of letters token.now) (at reading.old) (said letters token.now) (at reading.new)) }
     ensures err { IfErr result (IsCause (sign_of letters token.now) (at reading.old) (said letters token.now)) }
 {
     match kind_at(token) {
@@ -390,12 +393,12 @@ fn read_tokens(
     games_of(alloc, reading)
 }
 
-/// The games of a text in PGN (the import format of the PGN standard, sections 7 and 8), each from the initial array and
-/// in the order of the text, the same game as often as it stands there. The men's letters are those of a language, or
-/// figurines; `:` and a cross stand for `x` too, a dash for `-`, and `o` or a zero for the letter of castling. Comments,
-/// annotation glyphs, variations, marks and `e.p.` are passed over. A game ends at a result, at a tag pair behind a move,
-/// or at the end of the text. Each move is read as by `pg_san::read`. The games are taken from `alloc`, and so is, while
-/// a long text is read, room of some 43 KB.
+/// The games of a text in PGN (the import format of the PGN standard, sections 7 and 8), each from the initial array
+/// and in the order of the text, the same game as often as it stands there. The men's letters are those of a language,
+/// or figurines; `:` and a cross stand for `x` too, a dash for `-`, and `o` for the letter of castling. Comments,
+/// annotation glyphs, variations, marks and `e.p.` are passed over. A game ends at a result, at a tag pair behind a
+/// move, or at the end of the text. Each move is read as by `pg_san::read`. The games are taken from `alloc`, and so
+/// is, while a long text is read, room of some 43 KB.
 ///
 /// # Errors
 /// The first fault of the text: `At` with its place, where a word of the main line is no legal move, or more than one;

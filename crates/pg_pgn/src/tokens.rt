@@ -2,7 +2,8 @@
 ghost use Rattle.std.specs.Prelude.{◌≡◌, ◌||◌, ◌≤◌, length, IfSome};
 ghost use Rattle.std.specs.List.{prefix_len};
 ghost use Rattle.std.specs.Char.{is_ascii_digit};
-ghost use Rattle.pg_pgn.specs.Tokens.{is_line_end, is_in_line, is_gap, kind_of, kind_at, is_word_byte, is_inside, hidden_len};
+ghost use Rattle.pg_pgn.specs.Tokens.{is_line_end, is_in_line, is_gap, kind_of};
+ghost use Rattle.pg_pgn.specs.Tokens.{kind_at, is_word_byte, is_inside, hidden_len};
 ghost use Rattle.pg_pgn.specs.Tokens.{comment_len, next_part, tag_from, more_len, without_mark, body};
 ghost use Rattle.pg_pgn.specs.declared.tokens.TagPart.TheVariants as TagPart;
 

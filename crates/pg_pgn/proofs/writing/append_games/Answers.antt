@@ -1,4 +1,4 @@
-use Rattle.std.proofs.Common.{◌≡◌, List, refl, sym, drop, length, ◌∙◌, arith}
+use Rattle.std.proofs.Common.{◌≡◌, refl, sym, drop, length, ◌∙◌, arith}
 use Rattle.std.proofs.lemmas.List.{nil_from_length}
 use Rattle.pg_certificate.specs.Pushing.{AddsSome}
 use Rattle.pg_pgn.specs.Writing.{AreFurther, IsPgnText}
