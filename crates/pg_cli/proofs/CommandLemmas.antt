@@ -7,7 +7,7 @@ use Rattle.pg_cli.specs.Words.{name_of, OfCommand}
 use Rattle.pg_cli.specs.declared.commands.Command.{Command}
 use Rattle.pg_cli.specs.declared.commands.Command.TheVariants.{OfProblem, Check, Search, OfCertificate, Other}
 use Rattle.pg_cli.specs.declared.commands.CertificateCommand.TheVariants.{Answer, Why, Page}
-use Rattle.pg_cli.specs.declared.commands.OtherCommand.TheVariants.{Show, Moves, Count, Solve, Judge, Upgrade}
+use Rattle.pg_cli.specs.declared.commands.OtherCommand.TheVariants.{Show, Moves, Count, Solve, Judge, Upgrade, Pgn, End}
 use Rattle.pg_cli.specs.declared.commands.ProblemCommand.TheVariants.{Games, Cooks}
 use Rattle.pg_cli.specs.declared.refusals.Refusal.{Refusal}
 
@@ -20,7 +20,8 @@ of_key n =
     cond (eqb n 26735) (Other Show) (cond (eqb n 28534) (Other Moves) (cond (eqb n 28533) (Other Count)
     (cond (eqb n 24941) (OfProblem Games) (cond (eqb n 28527) (OfProblem Cooks) (cond (eqb n 26725) Check
     (cond (eqb n 28275) (OfCertificate Answer) (cond (eqb n 25953) Search (cond (eqb n 30052) (Other Judge)
-    (cond (eqb n 28524) (Other Solve) (cond (eqb n 26745) (OfCertificate Why) (cond (eqb n 24935) (OfCertificate Page) (Other Upgrade))))))))))))
+    (cond (eqb n 28524) (Other Solve) (cond (eqb n 26745) (OfCertificate Why) (cond (eqb n 24935) (OfCertificate Page)
+    (cond (eqb n 26478) (Other Pgn) (cond (eqb n 28260) (Other End) (Other Upgrade))))))))))))))
 
 told_back : (k : Command) → of_key (key (name_of k)) ≡ k
 unfolding of_key key
@@ -37,6 +38,8 @@ told_back (Other Judge) = refl
 told_back (OfCertificate Why) = refl
 told_back (OfCertificate Page) = refl
 told_back (Other Upgrade) = refl
+told_back (Other Pgn) = refl
+told_back (Other End) = refl
 
 the_one : (k command : Command) → Some k ≡ Some command → k ≡ command
 the_one k command e = ap (λ (o : Option Command). unwrap_or o k) e
