@@ -48,12 +48,12 @@ fn bytes_of(rt: &(impl Abort + AllocGlobal), text: &str) -> Vec<u8> {
 fn show_game(text: &mut String, game: &[Move]) -> Result<(), AllocError> {
     let mut here = Position::array();
     for m in game {
+        if !here.is_legal(m) {
+            return text.push_str(" illegal");
+        }
         text.push_str(" ")?;
         text.push_str(write(&here, *m).as_str())?;
-        match here.play(*m) {
-            Ok(next) => here = next,
-            Err(_) => return text.push_str(" illegal"),
-        }
+        here = here.after(m);
     }
     Ok(())
 }
