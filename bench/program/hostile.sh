@@ -141,8 +141,14 @@ done <<END
 4|pg: cannot open none/|search $array 0 none/
 4|pg: cannot open none/|search $array 0 none/ --tolls
 4|pg: cannot open none|check 8/8 64.5 none none --tolls
+2|$lacks <FILE>|pgn
+2|error: unexpected argument 'more' found|pgn none more
+2|pg: bad letters: they are english, german, french, dutch, spanish or italian|pgn none --letters klingon
+4|pg: cannot open none|pgn none
+2|$lacks <MOVES>|end
+2|pg: line 1, ply 1: not a move|end x
 END
-for command in '' solve check answer cooks judge games why page; do
+for command in '' solve check answer cooks judge games why page pgn end; do
   expect 0 '' "\"\$pg\" $command --help | grep -c '^Usage: '" 1
 done
 expect 0 '' '"$pg" --version | grep -c "^pg [0-9.]*$"' 1
@@ -174,6 +180,7 @@ PROBLEMS judge ''
 PROBLEMS judge '' --certificates ../none
 --certificates judge games --certificates '' --nodes 0
 --certificates judge none --certificates= --nodes 0
+FILE pgn ''
 END
 [ ! -e "$work/none" ] || { echo "an empty word leaves a file" >&2; wrong=1; }
 
@@ -248,6 +255,33 @@ many() { head -c "$1" /dev/zero | tr '\0' "$2"; }
 expect 2 'pg: line 2: repeated game' 'yes e4 | head -n 4097 | "$pg" check $array 0 ../none.pgc'
 expect 2 'pg: line 1, ply 1: not a move' '(many 1000000 1; echo e4) | "$pg" check $array 0 ../none.pgc'
 expect 1 'pg: game 1 does not have the stated length' '(many 1000000 1; many 1000000 .; echo e4) | "$pg" check $array 0 ../none.pgc'
+
+# Games in PGN become a list, and games say where they end.
+printf '\xef\xbb\xbf[White "N. N."]\r\n\r\n1. e4 {best} d5 (1... e5 2. Sf3)\r\n2. exd5\r\nQxd5 1/2-1/2\r\n' >"$work/mail.pgn"
+echo 'e4 d5 exd5 Dxd5' >"$work/german.pgn"
+echo '[FEN "8/8"]' >"$work/fen.pgn"
+recapture='1. e4 d5 2. exd5 Qxd5'
+for name in ../mail.pgn '- <../mail.pgn' '../german.pgn --letters german'; do
+  expect 0 '' "\"\$pg\" pgn $name" "$recapture"
+done
+expect 0 '' '"$pg" pgn ../mail.pgn | "$pg" games $queen 2.0 - | tail -n 1' 'at least one game'
+expect 0 '' '"$pg" pgn empty' ''
+expect 2 'pg: line 1, column 12: game 1, ply 4: Dxd5 is not a move' '"$pg" pgn ../german.pgn' ''
+expect 2 $'pg: line 1, column 12: game 1, ply 4: Dxd5 is not a move\npg: the letters are others: say --letters german' \
+  '"$pg" pgn ../german.pgn --hints' ''
+expect 2 'pg: line 1, column 12: game 1, ply 4: Dxd5 is not a move' '"$pg" pgn ../german.pgn --letters dutch --hints' ''
+expect 2 'pg: line 1, column 1: game 1: the tag FEN sets up a position' '"$pg" pgn ../fen.pgn' ''
+expect 4 'pg: write fault' '"$pg" pgn ../mail.pgn >/dev/full' ''
+expect 4 'pg: read fault' 'yes | "$pg" pgn -' ''
+ended=$(printf '%s\n' "$recapture" "diagram $queen" 'length 2.0' "fen $queen w KQkq - 0 3")
+for moves in '"e4 d5 exd5 Qxd5"' '- <games'; do expect 0 '' "\"\$pg\" end $moves" "$ended"; done
+expect 0 '' '"$pg" end - <empty' ''
+expect 0 '' 'printf "a3\n-\n" | "$pg" end - | grep fen' \
+  $'fen rnbqkbnr/pppppppp/8/8/8/8/PPPPPPPP/RNBQKBNR w KQkq - 0 1\nfen rnbqkbnr/pppppppp/8/8/8/P7/1PPPPPPP/RNBQKBNR b KQkq - 0 1'
+expect 0 '' '"$pg" end "Nf3 Nf6 Ng1" | tail -n 1' 'fen rnbqkb1r/pppppppp/5n2/8/8/8/PPPPPPPP/RNBQKBNR b KQkq - 3 2'
+expect 2 'pg: games are not UTF-8' 'printf "\xff" | "$pg" end -' ''
+expect 2 'pg: line 1, ply 2: no such legal move' '"$pg" end "e4 e4"' ''
+expect 4 'pg: write fault' '"$pg" end e4 >/dev/full' ''
 
 # Problems of a file that are judged: bad lines are told and skipped.
 row() { printf '%s\t' "${@:1:5}"; echo "$6"; }

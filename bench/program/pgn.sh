@@ -95,7 +95,7 @@ def ran(words):
 def peer(path):
     """The games that pgn-extract reads, a line each, or None where it finds fault."""
     _, out, said = ran(["pgn-extract", "-s", "-C", "-N", "-V", "--notags", "--noresults", "-w", "1000000", path])
-    if said.strip():
+    if re.sub(r"Games: \d+", "", said).strip():
         return None
     return [" ".join(part.split()) for part in out.split("\n") if part.strip()]
 
