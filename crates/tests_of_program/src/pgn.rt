@@ -3,7 +3,7 @@
 use pg_certificate::ToWrite;
 use pg_pgn::{Letters, PgnFault, PgnGames, fitting, letters_of, name_of, read_pgn, write_pgn};
 use pg_position::{Move, Position};
-use pg_san::write;
+use pg_san::{San, write};
 use std::alloc::AllocError;
 use std::process::Abort;
 
@@ -45,15 +45,27 @@ fn bytes_of(rt: &(impl Abort + AllocGlobal), text: &str) -> Vec<u8> {
     bytes
 }
 
+// The text of a move; none where it is not legal.
+fn written(position: &Position, m: &Move) -> Option<San> {
+    if position.is_legal(m) {
+        Some(write(position, *m))
+    } else {
+        None
+    }
+}
+
 fn show_game(text: &mut String, game: &[Move]) -> Result<(), AllocError> {
     let mut here = Position::array();
     for m in game {
-        if !here.is_legal(m) {
+        let Some(san) = written(&here, m) else {
             return text.push_str(" illegal");
-        }
+        };
         text.push_str(" ")?;
-        text.push_str(write(&here, *m).as_str())?;
-        here = here.after(m);
+        text.push_str(san.as_str())?;
+        match here.play(*m) {
+            Ok(next) => here = next,
+            Err(_) => return text.push_str(" illegal"),
+        }
     }
     Ok(())
 }
