@@ -2,7 +2,7 @@
 _pg() {
   local cur=${COMP_WORDS[COMP_CWORD]} before=${COMP_WORDS[COMP_CWORD - 1]} place=1 at
   local commands options valued=" " file_options=" " file_places=" "
-  commands="solve show moves count games cooks check answer search judge why page upgrade help"
+  commands="solve show moves count games cooks check answer search judge why page upgrade pgn end help"
   COMPREPLY=()
   if [ "$COMP_CWORD" = 1 ]; then
     mapfile -t COMPREPLY < <(compgen -W "$commands --hints --help -h --version -V" -- "$cur")
@@ -22,6 +22,8 @@ _pg() {
     why) options="--records --journeys --help -h" valued=" --records " file_places=" 1 " ;;
     page) options="--records --nodes --out --title --author --journeys --help -h" valued=" --records --nodes --out --title --author " file_options=" --out " file_places=" 1 " ;;
     upgrade) options="--records --help -h" valued=" --records " file_places=" 1 2 " ;;
+    pgn) options="--letters --help -h" valued=" --letters " file_places=" 1 " ;;
+    end) options="--help -h" ;;
     help) options=$commands ;;
     *) return ;;
   esac

@@ -43,6 +43,8 @@ complete -c pg -n __fish_use_subcommand -a judge -d 'Judges the problems of a fi
 complete -c pg -n __fish_use_subcommand -a why -d 'Explains a line of moves by a certificate'
 complete -c pg -n __fish_use_subcommand -a page -d 'Writes a page of HTML that shows a certificate'
 complete -c pg -n __fish_use_subcommand -a upgrade -d 'Copies a certificate of version 1 as one of version 2'
+complete -c pg -n __fish_use_subcommand -a pgn -d 'Prints the games of a file in PGN as a list, one a line'
+complete -c pg -n __fish_use_subcommand -a end -d 'Prints the diagram, the length and the FEN at the end of games'
 complete -c pg -n __fish_use_subcommand -a help -d 'Print this message or the help of the given subcommand(s)'
 complete -c pg -n '__pg_is solve' -l game -x -d 'The author\'s game, as one word'
 complete -c pg -n '__pg_is solve' -l games -r -F -d 'The author\'s games, one a line; -: standard input'
@@ -106,6 +108,10 @@ complete -c pg -n '__pg_is upgrade' -l records -x -d 'Refuses a certificate of m
 complete -c pg -n '__pg_is upgrade' -s h -l help -d 'Print help'
 complete -c pg -n '__pg_is_at upgrade 1 --records' -F
 complete -c pg -n '__pg_is_at upgrade 2 --records' -F
+complete -c pg -n '__pg_is pgn' -l letters -x -d 'german, french, dutch, spanish or italian; else english'
+complete -c pg -n '__pg_is pgn' -s h -l help -d 'Print help'
+complete -c pg -n '__pg_is_at pgn 1 --letters' -F
+complete -c pg -n '__pg_is end' -s h -l help -d 'Print help'
 complete -c pg -n '__pg_is_at help 1' -a solve -d 'Says of one problem whether it is sound, with the games'
 complete -c pg -n '__pg_is_at help 1' -a show -d 'Prints the board of a diagram, and what is known of it at once'
 complete -c pg -n '__pg_is_at help 1' -a moves -d 'Prints the legal moves of a position, one a line'
@@ -119,4 +125,6 @@ complete -c pg -n '__pg_is_at help 1' -a judge -d 'Judges the problems of a file
 complete -c pg -n '__pg_is_at help 1' -a why -d 'Explains a line of moves by a certificate'
 complete -c pg -n '__pg_is_at help 1' -a page -d 'Writes a page of HTML that shows a certificate'
 complete -c pg -n '__pg_is_at help 1' -a upgrade -d 'Copies a certificate of version 1 as one of version 2'
+complete -c pg -n '__pg_is_at help 1' -a pgn -d 'Prints the games of a file in PGN as a list, one a line'
+complete -c pg -n '__pg_is_at help 1' -a end -d 'Prints the diagram, the length and the FEN at the end of games'
 complete -c pg -n '__pg_is_at help 1' -a help -d 'Print this message or the help of the given subcommand(s)'

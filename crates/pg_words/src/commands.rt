@@ -265,7 +265,7 @@ const PGN: Word = Word {
 const LETTERS: Word = Word {
     name: "letters",
     kind: Kind::Named("LANGUAGE"),
-    help: "german, french, dutch, spanish or italian; else english",
+    help: "german, french, dutch, spanish or italian",
 };
 
 const OLD: Word = Word {
