@@ -269,7 +269,7 @@ expect 0 '' '"$pg" pgn empty' ''
 expect 2 'pg: line 1, column 12: game 1, ply 4: Dxd5 is not a move' '"$pg" pgn ../german.pgn' ''
 expect 2 $'pg: line 1, column 12: game 1, ply 4: Dxd5 is not a move\npg: the letters are others: say --letters german' \
   '"$pg" pgn ../german.pgn --hints' ''
-expect 2 'pg: line 1, column 12: game 1, ply 4: Dxd5 is not a move' '"$pg" pgn ../german.pgn --letters dutch --hints' ''
+expect 2 'pg: line 1, column 4: game 1, ply 2: Sf6 is not a move' 'echo "e4 Sf6" | "$pg" pgn - --letters dutch --hints' ''
 expect 2 'pg: line 1, column 1: game 1: the tag FEN sets up a position' '"$pg" pgn ../fen.pgn' ''
 expect 4 'pg: write fault' '"$pg" pgn ../mail.pgn >/dev/full' ''
 expect 4 'pg: read fault' 'yes | "$pg" pgn -' ''
