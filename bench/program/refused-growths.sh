@@ -174,6 +174,10 @@ refuse 40 0 '' page tolls.pgc
 refuse 40 0 '' upgrade old.pgc new.pgc
 refuse 40 4 'pg: cannot open old.pgc' upgrade old.pgc old.pgc
 
+refuse 40 0 '' pgn games
+refuse 40 2 'pg: line 1, column 3: game 1, ply 1: rnbqkbnr/pppp1ppp/8/4p3/ is not a move' pgn bad
+refuse 40 0 '' end 'e4 e5'
+
 refuse 40 2 'pg: line 1: bad name' judge bad
 may='ample unsettled'
 refuse 40 0 '' judge one
