@@ -108,7 +108,7 @@ complete -c pg -n '__pg_is upgrade' -l records -x -d 'Refuses a certificate of m
 complete -c pg -n '__pg_is upgrade' -s h -l help -d 'Print help'
 complete -c pg -n '__pg_is_at upgrade 1 --records' -F
 complete -c pg -n '__pg_is_at upgrade 2 --records' -F
-complete -c pg -n '__pg_is pgn' -l letters -x -d 'german, french, dutch, spanish or italian; else english'
+complete -c pg -n '__pg_is pgn' -l letters -x -d 'german, french, dutch, spanish or italian'
 complete -c pg -n '__pg_is pgn' -s h -l help -d 'Print help'
 complete -c pg -n '__pg_is_at pgn 1 --letters' -F
 complete -c pg -n '__pg_is end' -s h -l help -d 'Print help'
