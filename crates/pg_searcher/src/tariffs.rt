@@ -16,12 +16,12 @@ use pg_tolls::Tariff;
 use std::alloc::{AllocError, Global};
 
 // So few tariffs are all kept, with no walk that shows which are of use.
-const FEW: usize = 8;
+const FEW: usize = 16;
 
 /// Tariffs for the way to a diagram, and how many nodes were visited to find them.
 #[derive(Drop)]
 pub struct FoundTariffs {
-    /// At most 64, those first that exclude most nodes; or those that were found first, where they are 8 at most.
+    /// At most 64, those first that exclude most nodes; or those that were found first, where they are 16 at most.
     pub tariffs: Vec<Tariff>,
     /// How many nodes were visited.
     pub nodes: u64,
@@ -123,7 +123,7 @@ fn found<P: SearchProgress>(
 /// One that is found closes it, and cuts as it would in `search_by_tolls` from then on; no more than 250 are kept. How
 /// many nodes are enough goes by what looks have cost so far, in steps and not in time, so the answer is fixed.
 ///
-/// Of more than eight tariffs those are handed out that cut a node in another walk over the trees, with no looks. Both
+/// Of more than 16 tariffs those are handed out that cut a node in another walk over the trees, with no looks. Both
 /// walks tell `watch` how far they are, and the first alone of games.
 ///
 /// # Errors

@@ -20,15 +20,15 @@ const FIRST_AFTER: u64 = 50;
 
 const LEAST_AFTER: u64 = 20;
 
-const MOST_AFTER: u64 = 8_000;
+const MOST_AFTER: u64 = 400;
 
 // How many times as many nodes are visited below the same node when the next look at it comes.
 const GROWTH: u64 = 4;
 
 // How many nodes a step of a look is as dear as: with journeys and without.
-const NODES_BY_JOURNEYS: u64 = 30;
+const NODES_BY_JOURNEYS: u64 = 8;
 
-const NODES: u64 = 60;
+const NODES: u64 = 16;
 
 // How looks go: after how many nodes below a node one is made there, how many nodes a step is as dear as, and how many
 // nodes might be visited at the outset.
