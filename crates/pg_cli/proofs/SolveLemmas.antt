@@ -1,5 +1,5 @@
 -- What solving a problem tells, by what is told of an entry.
-use Rattle.std.proofs.Common.{◌≡◌, ℕ, List, subst, sym}
+use Rattle.std.proofs.Common.{◌≡◌, ℕ, Bool, List, subst, sym}
 use Rattle.std.specs.Prelude.{Option, Some, None, Result, IfOk}
 use Rattle.pg_board.specs.Placement.{Placement}
 use Rattle.pg_certificate.specs.Pushing.{AddsSome}
@@ -9,20 +9,20 @@ use Rattle.pg_cli.specs.declared.refusals.Refusal.{Refusal}
 use Rattle.pg_cli.proofs.StatusLemmas.{tells}
 
 -- what is told beside these games is told beside some
-pub beside_some : (d : Placement) (n : ℕ) (author : List (List Move)) (result : Result ℕ Refusal) (a b : Option (List ℕ))
-    → IfOk result (λ status. AddsSome (IsSolvedWith d n author status) a b) → IfOk result (λ status. AddsSome (IsSolvedBeside d n status) a b)
-beside_some d n author result a b h =
-    tells result (λ status. AddsSome (IsSolvedWith d n author status) a b) (λ status. AddsSome (IsSolvedBeside d n status) a b) h
+pub beside_some : (pgn : Bool) (d : Placement) (n : ℕ) (author : List (List Move)) (result : Result ℕ Refusal) (a b : Option (List ℕ))
+    → IfOk result (λ status. AddsSome (IsSolvedWith pgn d n author status) a b) → IfOk result (λ status. AddsSome (IsSolvedBeside pgn d n status) a b)
+beside_some pgn d n author result a b h =
+    tells result (λ status. AddsSome (IsSolvedWith pgn d n author status) a b) (λ status. AddsSome (IsSolvedBeside pgn d n status) a b) h
     (λ status k. (k.0, (author, k.1), k.2))
 
 -- of a length it is told of some
-pub of_some : (d : Placement) (n : ℕ) (result : Result ℕ Refusal) (a b : Option (List ℕ))
-    → IfOk result (λ status. AddsSome (IsSolvedBeside d n status) a b) → IfOk result (λ status. AddsSome (IsSolvedBoard d None status) a b)
-of_some d n result a b h =
-    tells result (λ status. AddsSome (IsSolvedBeside d n status) a b) (λ status. AddsSome (IsSolvedBoard d None status) a b) h
+pub of_some : (pgn : Bool) (d : Placement) (n : ℕ) (result : Result ℕ Refusal) (a b : Option (List ℕ))
+    → IfOk result (λ status. AddsSome (IsSolvedBeside pgn d n status) a b) → IfOk result (λ status. AddsSome (IsSolvedBoard pgn d None status) a b)
+of_some pgn d n result a b h =
+    tells result (λ status. AddsSome (IsSolvedBeside pgn d n status) a b) (λ status. AddsSome (IsSolvedBoard pgn d None status) a b) h
     (λ status k. (k.0, (n, k.1), k.2))
 
 -- of the length that is asked
-pub as_asked : (d : Placement) (asked said : Option ℕ) (result : Result ℕ Refusal) (a b : Option (List ℕ)) → asked ≡ said
-    → IfOk result (λ status. AddsSome (IsSolvedBoard d said status) a b) → IfOk result (λ status. AddsSome (IsSolvedBoard d asked status) a b)
-as_asked d asked said result a b e h = subst (λ (o : Option ℕ). IfOk result (λ status. AddsSome (IsSolvedBoard d o status) a b)) (sym e) h
+pub as_asked : (pgn : Bool) (d : Placement) (asked said : Option ℕ) (result : Result ℕ Refusal) (a b : Option (List ℕ)) → asked ≡ said
+    → IfOk result (λ status. AddsSome (IsSolvedBoard pgn d said status) a b) → IfOk result (λ status. AddsSome (IsSolvedBoard pgn d asked status) a b)
+as_asked pgn d asked said result a b e h = subst (λ (o : Option ℕ). IfOk result (λ status. AddsSome (IsSolvedBoard pgn d o status) a b)) (sym e) h

@@ -10,7 +10,9 @@ use Rattle.pg_checker.specs.Naming.{Begins, IsNamed}
 use Rattle.pg_checker.specs.Terms.{Terms}
 use Rattle.pg_checker.specs.declared.fault.ProblemFault.{ProblemFault}
 use Rattle.pg_checker.specs.declared.problem.Problem.{Problem}
+use Rattle.pg_certificate.specs.Pushing.{AddsSome}
 use Rattle.pg_files.specs.Inputs.{IsAll}
+use Rattle.pg_pgn.specs.Writing.{IsPgnText}
 use Rattle.pg_tariff_files.specs.Files.{IsFile}
 use Rattle.pg_san.specs.Listing.{IsListing}
 use Rattle.pg_texts.specs.Report.{IsVerdict}
@@ -35,6 +37,11 @@ IsHandedAnswer t d n before after status = (v : Verdict) × (status ≡ verdict_
 -- some list is the exact answer to a diagram and a length, with this status
 abbrev pub HasAnswer : Placement → ℕ → ℕ → Type 0
 HasAnswer d n status = (list : List (List Move)) × IsAnswered d n list status
+
+-- some list is the exact answer to a diagram and a length, its games are appended as PGN, and this is its status
+abbrev pub HasSentAnswer : Placement → ℕ → Option (List ℕ) → Option (List ℕ) → ℕ → Type 0
+HasSentAnswer d n before after status =
+    (list : List (List Move)) × IsAnswered d n list status × AddsSome (IsPgnText list) before after
 
 -- these are the bytes of some opened file or, where the name is a hyphen, of some standard input, where those are known
 abbrev pub IsGivenBy : {F R : Type 0} → (F → Option (List ℕ)) → (R → Option (List ℕ)) → Text → List ℕ → Type 0

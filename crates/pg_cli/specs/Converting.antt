@@ -1,15 +1,23 @@
 -- What a status of `pg pgn` and of `pg end` says of the bytes that are read.
-use Rattle.std.specs.Prelude.{◌≡◌, ◌≢◌, ◌⊎◌, ℕ, List, codes}
+use Rattle.std.specs.Prelude.{◌≡◌, ◌⊎◌, ℕ, List, Option, None, Some, codes}
 use Rattle.clap.specs.Words.{Text}
 use Rattle.pg_position.specs.declared.moves.Move.{Move}
 use Rattle.pg_san.specs.Listing.{IsListing}
 use Rattle.pg_pgn.specs.Pgn.{IsFile}
+use Rattle.pg_pgn.specs.Languages.{name_of}
 use Rattle.pg_pgn.specs.declared.letters.Letters.{Letters}
+use Rattle.pg_pgn.specs.declared.letters.Letters.TheVariants.{English}
 
--- the bytes that a name gives are games in PGN, in the letters of some language, and the status is 0
-abbrev pub HasPgn : (Text → List ℕ → Type 0) → Text → ℕ → Type 0
-HasPgn Gives name status = (text : List ℕ) × Gives name text
-    × ((letters : Letters) × (games : List (List Move)) × IsFile letters text games) × (status ≡ 0)
+-- the letters of the language that a word names; where there is no such word, English ones
+abbrev pub AreNamed : Option Text → Letters → Type 0
+AreNamed None letters = letters ≡ English
+AreNamed (Some name) letters = name ≡ name_of letters
+
+-- the bytes that a name gives are games in PGN, in the letters that a word names, and the status is 0
+abbrev pub HasPgn : (Text → List ℕ → Type 0) → Text → Option Text → ℕ → Type 0
+HasPgn Gives name word status = (text : List ℕ) × Gives name text
+    × ((letters : Letters) × AreNamed word letters × ((games : List (List Move)) × IsFile letters text games))
+    × (status ≡ 0)
 
 -- the bytes are these moves, or what a hyphen gives
 abbrev pub IsTyped : (Text → List ℕ → Type 0) → Text → List ℕ → Type 0

@@ -1,5 +1,5 @@
 -- What the words of a command spell, and what its status says of that.
-use Rattle.std.specs.Prelude.{◌≡◌, ℕ, ◌<◌, ◌≤◌, ◌^◌, List, [], Ok, Option, Some, None, IfSome, codes, option_map, unwrap_or}
+use Rattle.std.specs.Prelude.{◌≡◌, ◌↔◌, Bool, IsTrue, ℕ, ◌<◌, ◌≤◌, ◌^◌, List, [], Ok, Option, Some, None, IfSome, codes, option_map, unwrap_or}
 use Rattle.std.specs.Str.Parse.{IsNumeral, digits_value, without_leading_plus}
 use Rattle.clap.specs.Words.{Row, Text, first_of, one_of, subcommand_name_of, subcommand_rows_of}
 use Rattle.clap.specs.declared.parser.matches.ArgMatches.{ArgMatches}
@@ -113,11 +113,12 @@ says_of_certificate Answer d n status = HasAnswer d n status
 says_of_certificate Why d n status = HasList d n × (status ≡ 0)
 says_of_certificate Page d n status = HasList d n × (status ≡ 0)
 
--- what a status of `pg solve` says: the word DIAGRAM spells a diagram, and LENGTH, if it is there, a length; a report
--- has this status, of what is found of that diagram and of this length or, where there is no such word, of some length
+-- what a status of `pg solve` says: the word DIAGRAM spells a diagram, and LENGTH, if it is there, a length; a text, in
+-- PGN where the words say so, has this status, of what is found of that diagram and of this length or, where there is no
+-- such word, of some length
 abbrev pub IsSolved : List Row → ℕ → Type 0
-IsSolved rows status = (text : List ℕ) × (d : Placement) × (asked : Option ℕ)
-    × SpellsBoard rows d asked × IsSolvedBoard d asked status text
+IsSolved rows status = (text : List ℕ) × (pgn : Bool) × (IsTrue pgn ↔ Says (codes "pgn") rows)
+    × (d : Placement) × (asked : Option ℕ) × SpellsBoard rows d asked × IsSolvedBoard pgn d asked status text
 
 -- what it says of the words of any other command
 abbrev pub says_of_words : (Text → List ℕ → Type 0) → OtherCommand → List Row → ℕ → Type 0
@@ -127,7 +128,8 @@ says_of_words Gives Count rows status = HasFewPlies rows status
 says_of_words Gives Solve rows status = IsSolved rows status
 says_of_words Gives Judge rows status = IsListJudged Gives (spelled (codes "PROBLEMS") rows) status
 says_of_words Gives Upgrade rows status = status ≡ 0
-says_of_words Gives Pgn rows status = HasPgn Gives (spelled (codes "FILE") rows) status
+says_of_words Gives Pgn rows status =
+    HasPgn Gives (spelled (codes "FILE") rows) (first_of (codes "letters") rows) status
 says_of_words Gives End rows status = HasEnds Gives (spelled (codes "MOVES") rows) status
 
 -- what a status says of a command with these words, where `Names` is what the header of the certificate of a name names,

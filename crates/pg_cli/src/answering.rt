@@ -1,4 +1,4 @@
-//! `pg answer`: the games that a certificate proves are reported, without a list.
+//! `pg answer`: the games that a certificate proves are reported, or written as PGN, without a list.
 
 ghost use Rattle.std.specs.Prelude.{◌≡◌, IfOk, IfErr};
 ghost use Rattle.pg_checker.specs.Cuts.{any_rules_by, rules_by};
@@ -7,17 +7,22 @@ ghost use Rattle.pg_checker.specs.Terms.{terms};
 ghost use Rattle.clap.specs.Words.{found_of, rows_of};
 ghost use Rattle.pg_report.specs.Run.{failures};
 ghost use Rattle.pg_streams.specs.Buffer.{sink_of};
-ghost use Rattle.pg_cli.specs.Answers.{HasAnswer, IsHandedAnswer};
+ghost use Rattle.pg_cli.specs.Answers.{HasAnswer, HasSentAnswer, IsHandedAnswer};
 ghost use Rattle.pg_cli.specs.Runs.{IsAnswerRefusal, IsOfSink};
 ghost use Rattle.pg_cli.specs.Words.{ByRecords};
 
 use crate::checking::finished;
 use crate::refusals::Refusal;
-use crate::spelling::records_of;
+use crate::sending::send;
+use crate::spelling::{records_of, say_pgn};
 use clap::ArgMatches;
 use pg_certificate::format::MOST_NAMED;
-use pg_report::{Bound, Opened, Sink, Source, run_answer, verdict_status};
+use pg_checker::answer_opened;
+use pg_report::{
+    AnswerRunFault, Bound, Opened, Sink, Source, Unwatched, run_answer, verdict_status,
+};
 use pg_streams::Gathered;
+use pg_texts::verdict_on;
 use std::alloc::Global;
 
 // Reads a certificate that was opened, and writes the report of the games that it proves; the status of their verdict.
@@ -27,7 +32,7 @@ use std::alloc::Global;
 // `Answer` with the fault of the run, or `Check` with `Write` where the rest of the report is refused. Then nothing is
 // written, but where the sink refuses it.
 #[inline(never)]
-pub(crate) fn answer_on<S: Source, W: Sink>(
+fn answer_on<S: Source, W: Sink>(
     alloc: Global,
     words: &ArgMatches<'_>,
     opened: &mut Opened,
@@ -52,4 +57,56 @@ pub(crate) fn answer_on<S: Source, W: Sink>(
         Ok(verdict) => finished(verdict_status(verdict), out),
         Err(fault) => Err(Refusal::Answer(fault)),
     }
+}
+
+// Reads a certificate that was opened, and writes the games that it proves as PGN; the status of their verdict. That
+// means that these games are the exact answer to the problem of its header; all of it is handed on then.
+//
+// # Errors
+// As for `answer_on`.
+#[inline(never)]
+fn answer_as_pgn<S: Source, W: Sink>(
+    alloc: Global,
+    words: &ArgMatches<'_>,
+    opened: &mut Opened,
+    bounds: &[Box<dyn Bound>],
+    source: &mut S,
+    out: &mut Gathered<W>,
+) -> Result<u8, Refusal>
+    ensures { IfOk result (λ status. HasSentAnswer opened.old.diagram opened.old.plies
+        (⟦<Gathered<W> as Sink>⟧.held out.old) (W.held (sink_of out.new)) status) }
+{
+    let records = records_of(words);
+    match answer_opened(
+        alloc,
+        opened,
+        bounds,
+        source,
+        &mut Unwatched,
+        records,
+        MOST_NAMED,
+    ) {
+        Ok(answer) => {
+            let status = verdict_status(verdict_on(&answer.games));
+            send(&answer.games, status, out)
+        }
+        Err(fault) => Err(Refusal::Answer(AnswerRunFault::Answer(fault))),
+    }
+}
+
+// Reads a certificate as `answer_on` does, and writes its games as PGN where the words say so, else their report.
+pub(crate) fn answer_told<S: Source, W: Sink>(
+    alloc: Global,
+    words: &ArgMatches<'_>,
+    opened: &mut Opened,
+    bounds: &[Box<dyn Bound>],
+    source: &mut S,
+    out: &mut Gathered<W>,
+) -> Result<u8, Refusal>
+    ensures { IfOk result (λ status. HasAnswer opened.old.diagram opened.old.plies status) }
+{
+    if say_pgn(words) {
+        return answer_as_pgn(alloc, words, opened, bounds, source, out);
+    }
+    answer_on(alloc, words, opened, bounds, source, out)
 }

@@ -8,6 +8,7 @@ ghost use Rattle.pg_checker.specs.Cuts.{rules_by};
 ghost use Rattle.pg_checker.specs.Terms.{Terms, terms};
 ghost use Rattle.pg_report.specs.Run.{Failures, failures};
 ghost use Rattle.pg_report.specs.declared.fault.RunFault.TheVariants.{Write};
+ghost use Rattle.pg_pgn.specs.Writing.{IsPgnText};
 ghost use Rattle.pg_streams.specs.Buffer.{IsHandedOn, sink_of};
 ghost use Rattle.pg_texts.specs.Report.{IsReport};
 ghost use Rattle.pg_cli.specs.Answers.{IsAnswered, OfGiven};
@@ -18,7 +19,8 @@ use crate::asked::Carrying;
 use crate::knowing::{Listed, read_listed};
 use crate::refusals::Refusal;
 use crate::screen::Screen;
-use crate::spelling::{records_of, text_of};
+use crate::sending::send;
+use crate::spelling::{records_of, say_pgn, text_of};
 use clap::ArgMatches;
 use pg_certificate::format::MOST_NAMED;
 use pg_files::size_of;
@@ -117,6 +119,61 @@ pub(crate) fn check_on<S: Source, W: Sink>(
     check_listed(alloc, listed, records_of(words), bounds, source, out)
 }
 
+// The same as `check_listed`, with the games as PGN in place of their report.
+#[inline(never)]
+fn check_as_pgn<S: Source, W: Sink>(
+    alloc: Global,
+    listed: &Listed,
+    records: u64,
+    bounds: &[Box<dyn Bound>],
+    source: &mut S,
+    out: &mut Gathered<W>,
+) -> Result<u8, Refusal>
+    ensures headline { IfOk result (λ status. IsAnswered listed.now.problem.diagram listed.now.problem.length
+        listed.now.games status) }
+    ensures text { OnOk result (AddsSome (IsPgnText listed.now.games)
+        (⟦<Gathered<W> as Sink>⟧.held out.old) (W.held (sink_of out.new))) }
+    ensures found { IfErr result (λ refusal. (t : Terms) × (failed : Failures) × IsFoundRefusal
+        listed.now.problem.diagram listed.now.problem.length listed.now.games t failed refusal) }
+{
+    let Problem { diagram, length } = &listed.problem;
+    let mut unread = ToWrite::new(io::sink());
+    match run_listed(
+        alloc,
+        diagram,
+        *length,
+        &listed.games,
+        bounds,
+        source,
+        &mut unread,
+        records,
+        MOST_NAMED,
+    ) {
+        Ok(verdict) => send(&listed.games, verdict_status(verdict), out),
+        Err(fault) => Err(Refusal::Check(fault)),
+    }
+}
+
+// Checks as `check_on` does, and writes the games as PGN where the words say so, else their report.
+fn check_told<S: Source, W: Sink>(
+    alloc: Global,
+    words: &ArgMatches<'_>,
+    listed: &Listed,
+    bounds: &[Box<dyn Bound>],
+    source: &mut S,
+    out: &mut Gathered<W>,
+) -> Result<u8, Refusal>
+    ensures headline { IfOk result (λ status. IsAnswered listed.now.problem.diagram listed.now.problem.length
+        listed.now.games status) }
+    ensures found { IfErr result (λ refusal. (t : Terms) × (failed : Failures) × IsFoundRefusal
+        listed.now.problem.diagram listed.now.problem.length listed.now.games t failed refusal) }
+{
+    if say_pgn(words) {
+        return check_as_pgn(alloc, listed, records_of(words), bounds, source, out);
+    }
+    check_on(alloc, words, listed, bounds, source, out)
+}
+
 // `pg check`: a certificate that was opened is checked, and the report stands on standard output. A status means that to the
 // problem a list that some text spells is the exact answer, and 0 that it has one game; the text is that of the file
 // GAMES or of standard input, of which no contract can say what it gives. A game that is called unlisted is a solution.
@@ -140,7 +197,7 @@ pub(crate) fn check<R: Runtime + AllocGlobal, F: Read + Drop>(
     let size = size_of(rt, text_of(words, "CERT"));
     let mut source = Passing::new(rt, &terminal, &mut certificate.file, size);
     let mut out = Gathered::new(Cleared::new(ToWrite::new(io::writer(rt)), rt, &terminal));
-    let answer = check_on(rt.alloc(), words, &listed, bounds, &mut source, &mut out);
+    let answer = check_told(rt.alloc(), words, &listed, bounds, &mut source, &mut out);
     source.end();
     answer
 }

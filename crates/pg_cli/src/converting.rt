@@ -1,15 +1,16 @@
 //! `pg pgn` and `pg end`: games in PGN as a list, and where the games of a list end.
 ghost use Rattle.std.specs.Prelude.{◌≡◌, ℕ, List, codes, IfOk, IfErr, OnOk};
-ghost use Rattle.clap.specs.Words.{found_of, rows_of};
+ghost use Rattle.clap.specs.Words.{first_of, found_of, rows_of};
 ghost use Rattle.pg_certificate.specs.Pushing.{AddsSome};
 ghost use Rattle.pg_position.specs.declared.moves.Move.{Move};
 ghost use Rattle.pg_pgn.specs.Ends.{AreEndTexts};
+ghost use Rattle.pg_pgn.specs.Languages.{name_of};
 ghost use Rattle.pg_pgn.specs.Pgn.{IsFile};
 ghost use Rattle.pg_san.specs.Listing.{IsListing};
 ghost use Rattle.pg_streams.specs.Buffer.{sink_of};
 ghost use Rattle.pg_texts.specs.Report.{AreGameLines};
 ghost use Rattle.pg_cli.specs.Answers.{IsGivenBy};
-ghost use Rattle.pg_cli.specs.Converting.{HasEnds, HasPgn, IsTyped};
+ghost use Rattle.pg_cli.specs.Converting.{AreNamed, HasEnds, HasPgn, IsTyped};
 ghost use Rattle.pg_cli.specs.Words.{spelled};
 
 use crate::checking::finished;
@@ -25,17 +26,29 @@ use std::alloc::Global;
 use std::rt::Runtime;
 use std::{io, str};
 
+// The letters of a name.
+//
+// # Errors
+// `Letters` where there are none of that name.
+fn letters_named(name: &str) -> Result<Letters, Refusal>
+    ensures { IfOk result (λ letters. name.now ≡ name_of letters) }
+{
+    match letters_of(name) {
+        Some(letters) => Ok(letters),
+        None => Err(Refusal::Letters),
+    }
+}
+
 // The letters that the words name, English ones where they name none.
 //
 // # Errors
 // `Letters` where there are none of that name.
-fn letters_in(words: &ArgMatches<'_>) -> Result<Letters, Refusal> {
-    let Some(name) = words.get_str("letters") else {
-        return Ok(Letters::English);
-    };
-    match letters_of(name) {
-        Some(letters) => Ok(letters),
-        None => Err(Refusal::Letters),
+fn letters_in(words: &ArgMatches<'_>) -> Result<Letters, Refusal>
+    ensures { IfOk result (AreNamed (first_of (codes "letters") (rows_of (found_of words.now)))) }
+{
+    match words.get_str("letters") {
+        Some(name) => letters_named(name),
+        None => Ok(Letters::English),
     }
 }
 
@@ -78,7 +91,8 @@ fn bytes_of<R: Runtime + AllocGlobal>(rt: &R, words: &ArgMatches<'_>) -> Result<
 #[inline(never)]
 pub(crate) fn pgn<R: Runtime + AllocGlobal>(rt: &R, words: &ArgMatches<'_>) -> Result<u8, Refusal>
     ensures { IfOk result (λ status. HasPgn (IsGivenBy R.File.remaining R.Reader.remaining)
-        (spelled (codes "FILE") (rows_of (found_of words.now))) status) }
+        (spelled (codes "FILE") (rows_of (found_of words.now)))
+        (first_of (codes "letters") (rows_of (found_of words.now))) status) }
 {
     let letters = match letters_in(words) {
         Ok(letters) => letters,

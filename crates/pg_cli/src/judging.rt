@@ -19,7 +19,8 @@ use crate::limits::{Reach, reach_of};
 use crate::problems::{AtPlace, FAILS, Tally, count_problems, say_bad};
 use crate::refusals::{Named, Refusal};
 use crate::screen::Screen;
-use crate::spelling::{say_replace, text_of};
+use crate::sending::keep_games;
+use crate::spelling::{say_pgn, say_replace, text_of};
 use crate::watching::Watch;
 use clap::ArgMatches;
 use pg_captures::{Bound, Captures, Promotions};
@@ -61,13 +62,15 @@ pub(crate) enum Place<'a> {
     File(&'a str),
 }
 
-// What is asked of each problem: its limits, where its certificate is kept, and whether another one is replaced there.
+// What is asked of each problem: its limits, where its certificate is kept, whether another one is replaced there, and
+// whether its games are wanted as PGN.
 #[derive(Clone, Copy)]
 pub(crate) struct Orders<'a> {
     pub(crate) reach: Reach,
     pub(crate) enough: Enough,
     pub(crate) place: Place<'a>,
     pub(crate) replaces: bool,
+    pub(crate) as_pgn: bool,
 }
 
 impl Orders<'_> {
@@ -537,6 +540,10 @@ fn judge_and_tell<R: Runtime + AllocGlobal, W: Sink>(
         Ok(judged) => judged,
         Err(spoiled) => return Err(spoiled),
     };
+    match keep_games(rt, entry, &judged.ruling.finding, orders) {
+        Ok(()) => {}
+        Err(spoiled) => return Err(spoiled),
+    }
     seen.tally.count(&judged.ruling.finding);
     match write_row(entry, &judged.ruling, judged.old, out) {
         Ok(()) => {}
@@ -737,6 +744,7 @@ pub(crate) fn judge<R: Runtime + AllocGlobal>(
             None => Place::Nowhere,
         },
         replaces: say_replace(words),
+        as_pgn: say_pgn(words),
     };
     let terminal = Terminal::new(screen.lines);
     let mut out = Gathered::new(Cleared::new(ToWrite::new(io::writer(rt)), rt, &terminal));

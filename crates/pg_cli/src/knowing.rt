@@ -3,6 +3,7 @@ ghost use Rattle.std.specs.Prelude.{◌≡◌, ℕ, List, Ok, IfOk, IfErr, OnOk}
 ghost use Rattle.pg_certificate.specs.Pushing.{AddsSome};
 ghost use Rattle.pg_cooks.specs.Standing.{IsGamesReport};
 ghost use Rattle.pg_cooks.specs.Unsound.{IsUnsound};
+ghost use Rattle.pg_pgn.specs.Writing.{IsPgnText};
 ghost use Rattle.pg_san.specs.Listing.{IsListing};
 ghost use Rattle.pg_streams.specs.Buffer.{sink_of};
 ghost use Rattle.pg_cli.specs.Answers.{OfGiven};
@@ -15,6 +16,8 @@ use crate::checking::finished;
 use crate::limits::{Reach, reach_of};
 use crate::refusals::{Named, Refusal};
 use crate::screen::Screen;
+use crate::sending::send;
+use crate::spelling::say_pgn;
 use clap::ArgMatches;
 use pg_cooks::{
     CookAnswer, CooksFault, CooksRunFault, LedLimits, LedProgress, Standing, run_cooks, run_games,
@@ -159,6 +162,38 @@ pub(crate) fn games_from<W: Sink>(
     }
 }
 
+// The same with the games as PGN in place of what they show.
+fn games_as_pgn<W: Sink>(
+    problem: &Problem,
+    games: &Games,
+    out: &mut Gathered<W>,
+) -> Result<u8, Refusal>
+    ensures status { IfOk result (λ status. IsTestedWith problem.now.diagram problem.now.length games.now status) }
+    ensures text { OnOk result (AddsSome (IsPgnText games.now)
+        (⟦<Gathered<W> as Sink>⟧.held out.old) (W.held (sink_of out.new))) }
+{
+    let mut unread = ToWrite::new(io::sink());
+    match run_games(problem, games, &mut unread) {
+        Ok(standing) => send(games, standing_status(standing), out),
+        Err(fault) => Err(Refusal::of_listing(fault)),
+    }
+}
+
+// Tests a list of games, and writes it as PGN where the words say so, else what it shows by itself.
+fn games_told<W: Sink>(
+    words: &ArgMatches<'_>,
+    listed: &Listed,
+    out: &mut Gathered<W>,
+) -> Result<u8, Refusal>
+    ensures { IfOk result (λ status. IsTestedWith listed.now.problem.diagram listed.now.problem.length
+        listed.now.games status) }
+{
+    if say_pgn(words) {
+        return games_as_pgn(&listed.problem, &listed.games, out);
+    }
+    games_from(&listed.problem, &listed.games, out)
+}
+
 // Why nothing is found beside a list, as a refusal.
 fn refusal_of(fault: CooksRunFault) -> Refusal
     ensures { result ≡ cooks_refusal fault }
@@ -213,7 +248,7 @@ pub(crate) fn games<R: Runtime + AllocGlobal>(
 {
     let listed = read_listed(rt, words, problem, screen)?;
     let mut out = Gathered::new(ToWrite::new(io::writer(rt)));
-    games_from(&listed.problem, &listed.games, &mut out)
+    games_told(words, &listed, &mut out)
 }
 
 // Looks for a game beside those of a list, as `cooks_from` does, within the time that there is, and shows how far it is.

@@ -33,6 +33,7 @@ mod problems;
 mod refusals;
 mod screen;
 mod searching;
+mod sending;
 mod solving;
 mod spelling;
 mod telling;

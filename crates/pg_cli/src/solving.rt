@@ -1,12 +1,12 @@
-//! `pg solve`: a problem is judged as one of a list is, and what is found is told as a report.
+//! `pg solve`: a problem is judged as one of a list is, and what is found is told as a report, or as PGN.
 
-ghost use Rattle.std.specs.Prelude.{◌≡◌, None, Some, IfOk};
+ghost use Rattle.std.specs.Prelude.{◌≡◌, ◌↔◌, None, Some, IfOk, IsTrue, codes, false, true};
 ghost use Rattle.clap.specs.Words.{found_of, rows_of};
 ghost use Rattle.pg_certificate.specs.Pushing.{AddsSome};
 ghost use Rattle.pg_judge.specs.Ruling.{IsFindingOf};
 ghost use Rattle.pg_streams.specs.Buffer.{sink_of};
 ghost use Rattle.pg_cli.specs.Solving.{IsSolvedBeside, IsSolvedBoard, IsSolvedWith};
-ghost use Rattle.pg_cli.specs.Words.{IsSolved};
+ghost use Rattle.pg_cli.specs.Words.{IsSolved, Says};
 
 use crate::checking::finished;
 use crate::judging::{NODES, Orders, Place, Spoiled, Turn, judge_entry, status_of};
@@ -14,7 +14,8 @@ use crate::limits::reach_of;
 use crate::positions::{Board, board_in};
 use crate::refusals::{Named, Refusal};
 use crate::screen::Screen;
-use crate::spelling::say_all;
+use crate::sending::write_found;
+use crate::spelling::{say_all, say_pgn};
 use crate::watching::Watch;
 use clap::ArgMatches;
 use pg_checker::check_listed;
@@ -57,7 +58,9 @@ fn author_in<R: Runtime + AllocGlobal>(rt: &R, words: &ArgMatches<'_>) -> Result
 }
 
 // What the words ask of a problem.
-fn orders_of<'a>(words: &ArgMatches<'a>) -> Orders<'a> {
+fn orders_of<'a>(words: &ArgMatches<'a>) -> Orders<'a>
+    ensures { IsTrue result.as_pgn ↔ Says (codes "pgn") (rows_of (found_of words.now)) }
+{
     Orders {
         reach: reach_of(words, NODES),
         enough: if say_all(words) {
@@ -70,6 +73,7 @@ fn orders_of<'a>(words: &ArgMatches<'a>) -> Orders<'a> {
             None => Place::Nowhere,
         },
         replaces: false,
+        as_pgn: say_pgn(words),
     }
 }
 
@@ -104,20 +108,58 @@ fn judged<R: Runtime + AllocGlobal>(
 //
 // # Errors
 // `Check` with `Write` where writing is refused.
-fn tell_finding<W: Sink>(
+fn report_finding<W: Sink>(
     entry: &Entry<'_>,
     ruling: &Ruling,
     out: &mut Gathered<W>,
 ) -> Result<u8, Refusal>
     requires { IsFindingOf entry.now ruling.now.finding }
     ensures { IfOk result (λ status. AddsSome
-        (IsSolvedWith entry.now.problem.diagram entry.now.problem.length entry.now.games status)
+        (IsSolvedWith false entry.now.problem.diagram entry.now.problem.length entry.now.games status)
         (⟦<Gathered<W> as Sink>⟧.held out.old) (W.held (sink_of out.new))) }
 {
     match write_finding(entry, &ruling.finding, out) {
         Ok(()) => finished(status_of(ruling), out),
         Err(_) => Err(Refusal::Check(RunFault::Write)),
     }
+}
+
+// Writes the games that are told of what is found as PGN, and hands all of it on; the status of what is found.
+//
+// # Errors
+// As for `report_finding`.
+fn send_finding<W: Sink>(
+    entry: &Entry<'_>,
+    ruling: &Ruling,
+    out: &mut Gathered<W>,
+) -> Result<u8, Refusal>
+    requires { IsFindingOf entry.now ruling.now.finding }
+    ensures { IfOk result (λ status. AddsSome
+        (IsSolvedWith true entry.now.problem.diagram entry.now.problem.length entry.now.games status)
+        (⟦<Gathered<W> as Sink>⟧.held out.old) (W.held (sink_of out.new))) }
+{
+    match write_found(entry, &ruling.finding, out) {
+        Ok(()) => finished(status_of(ruling), out),
+        Err(_) => Err(Refusal::Check(RunFault::Write)),
+    }
+}
+
+// Tells what is found of a problem, as PGN or in a report; the status of that.
+fn tell_finding<W: Sink>(
+    entry: &Entry<'_>,
+    ruling: &Ruling,
+    as_pgn: bool,
+    out: &mut Gathered<W>,
+) -> Result<u8, Refusal>
+    requires { IsFindingOf entry.now ruling.now.finding }
+    ensures { IfOk result (λ status. AddsSome
+        (IsSolvedWith as_pgn entry.now.problem.diagram entry.now.problem.length entry.now.games status)
+        (⟦<Gathered<W> as Sink>⟧.held out.old) (W.held (sink_of out.new))) }
+{
+    if as_pgn {
+        return send_finding(entry, ruling, out);
+    }
+    report_finding(entry, ruling, out)
 }
 
 // Judges a problem, and tells what is found. A status is that of what is found, which is true and stands in the report.
@@ -129,11 +171,11 @@ fn solve_entry<R: Runtime + AllocGlobal, W: Sink>(
     out: &mut Gathered<W>,
 ) -> Result<u8, Refusal>
     ensures { IfOk result (λ status. AddsSome
-        (IsSolvedWith entry.now.problem.diagram entry.now.problem.length entry.now.games status)
+        (IsSolvedWith orders.now.as_pgn entry.now.problem.diagram entry.now.problem.length entry.now.games status)
         (⟦<Gathered<W> as Sink>⟧.held out.old) (W.held (sink_of out.new))) }
 {
     match judged(rt, entry, orders, terminal) {
-        Ok(ruling) => tell_finding(entry, &ruling, out),
+        Ok(ruling) => tell_finding(entry, &ruling, orders.as_pgn, out),
         Err(refusal) => Err(refusal),
     }
 }
@@ -150,7 +192,7 @@ fn solve_problem<R: Runtime + AllocGlobal, W: Sink>(
     terminal: &Terminal,
     out: &mut Gathered<W>,
 ) -> Result<u8, Refusal>
-    ensures { IfOk result (λ status. AddsSome (IsSolvedBeside problem.diagram problem.length status)
+    ensures { IfOk result (λ status. AddsSome (IsSolvedBeside orders.now.as_pgn problem.diagram problem.length status)
         (⟦<Gathered<W> as Sink>⟧.held out.old) (W.held (sink_of out.new))) }
 {
     match check_listed(&problem.diagram, problem.length, &games) {
@@ -192,7 +234,7 @@ fn solve_shortest<R: Runtime + AllocGlobal, W: Sink>(
     terminal: &Terminal,
     out: &mut Gathered<W>,
 ) -> Result<u8, Refusal>
-    ensures { IfOk result (λ status. AddsSome (IsSolvedBoard diagram.now None status)
+    ensures { IfOk result (λ status. AddsSome (IsSolvedBoard orders.now.as_pgn diagram.now None status)
         (⟦<Gathered<W> as Sink>⟧.held out.old) (W.held (sink_of out.new))) }
 {
     let entry = Entry {
@@ -209,6 +251,7 @@ fn solve_shortest<R: Runtime + AllocGlobal, W: Sink>(
         enough: Enough::Shortest,
         place: orders.place,
         replaces: orders.replaces,
+        as_pgn: orders.as_pgn,
     };
     let ruling = match judged(rt, &entry, &shortest, terminal) {
         Ok(ruling) => ruling,
@@ -222,7 +265,7 @@ fn solve_shortest<R: Runtime + AllocGlobal, W: Sink>(
             };
             solve_problem(rt, problem, Games::new(rt.alloc()), orders, terminal, out)
         }
-        None => tell_finding(&entry, &ruling, out),
+        None => tell_finding(&entry, &ruling, orders.as_pgn, out),
     }
 }
 
@@ -244,7 +287,7 @@ fn solve_diagram<R: Runtime + AllocGlobal, W: Sink>(
     terminal: &Terminal,
     out: &mut Gathered<W>,
 ) -> Result<u8, Refusal>
-    ensures { IfOk result (λ status. AddsSome (IsSolvedBoard diagram.now None status)
+    ensures { IfOk result (λ status. AddsSome (IsSolvedBoard orders.now.as_pgn diagram.now None status)
         (⟦<Gathered<W> as Sink>⟧.held out.old) (W.held (sink_of out.new))) }
 {
     match length_in(&games) {
@@ -268,7 +311,7 @@ fn solve_board<R: Runtime + AllocGlobal, W: Sink>(
     terminal: &Terminal,
     out: &mut Gathered<W>,
 ) -> Result<u8, Refusal>
-    ensures { IfOk result (λ status. AddsSome (IsSolvedBoard board.now.diagram board.now.asked status)
+    ensures { IfOk result (λ status. AddsSome (IsSolvedBoard orders.now.as_pgn board.now.diagram board.now.asked status)
         (⟦<Gathered<W> as Sink>⟧.held out.old) (W.held (sink_of out.new))) }
 {
     match board.asked {

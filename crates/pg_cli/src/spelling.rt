@@ -98,6 +98,13 @@ pub(crate) fn say_all(words: &ArgMatches<'_>) -> bool
     say(words, "all")
 }
 
+// Whether the words say `--pgn`.
+pub(crate) fn say_pgn(words: &ArgMatches<'_>) -> bool
+    ensures { IsTrue result ↔ Says (codes "pgn") (rows_of (found_of words.now)) }
+{
+    say(words, "pgn")
+}
+
 // The words that name files and folders.
 const NAMES: [Named; 10] = [
     Named::Certificate,

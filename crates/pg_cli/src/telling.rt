@@ -2,7 +2,7 @@
 ghost use Rattle.std.specs.Prelude.{◌≡◌, Ok, IfOk};
 ghost use Rattle.pg_cli.specs.Words.{says_of_certificate};
 
-use crate::answering::answer_on;
+use crate::answering::answer_told;
 use crate::asked::Certificate;
 use crate::commands::CertificateCommand;
 use crate::guiding::why_on;
@@ -95,7 +95,7 @@ fn tell_to<R: Runtime + AllocGlobal, F: Read + Drop, P: Write + Drop>(
     let mut out = Gathered::new(Cleared::new(ToWrite::new(place), rt, &terminal));
     let answer = match command {
         CertificateCommand::Answer => {
-            answer_on(alloc, words, opened, bounds, &mut source, &mut out)
+            answer_told(alloc, words, opened, bounds, &mut source, &mut out)
         }
         CertificateCommand::Why => why_on(
             alloc,

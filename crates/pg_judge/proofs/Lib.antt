@@ -1,3 +1,3 @@
 pub mod GameLemmas
-mod RowLemmas
+pub mod RowLemmas
 mod EntryLemmas

@@ -378,9 +378,10 @@ fn append_row<W: Sink>(
 /// Writes the row of a problem, of what is found of it and by what, and of a certificate that stood there and did not
 /// settle it. The columns, with a tab between two of them: the name; the length; `sound`, `cooked`, `no game`, `not
 /// sound` or `not settled`; `-` where no game is given, `solves` where the author's game does, else `fails, ply 7` for
-/// the word that is no move, `fails, 12 plies` or `fails, ends elsewhere`; by what it was found, as `search, 67036 nodes`, `journeys, 3033 nodes`, `drawn, 64 nodes`, `tariffs, 64 nodes`, `tolls, 64 nodes`,
-/// `cooks, 211 nodes`, `certificate, 67037 records` or `certificate, time is over`, and `, old certificate refused` or
-/// `, certificate of another problem kept`; and last the game, of more than one their number and the first two, the
+/// the word that is no move, `fails, 12 plies` or `fails, ends elsewhere`; by what it was found, as `search, 67036
+/// nodes`, `journeys, 3033 nodes`, `drawn, 64 nodes`, `tariffs, 64 nodes`, `tolls, 64 nodes`, `cooks, 211 nodes`,
+/// `certificate, 67037 records` or `certificate, time is over`, and `, old certificate refused` or `, certificate of
+/// another problem kept`; and last the game, of more than one their number and the first two, the
 /// other game, the shorter one, or what is known where nothing is settled. Behind two games, and behind another game
 /// where the author's is given, stands where the two part, as `write_apart` tells it. Takes no memory.
 ///

@@ -1,5 +1,5 @@
 -- The text of a game grows by one move more, and that of games by one game.
-use Rattle.std.proofs.Common.{◌≡◌, ℕ, suc, ◌+◌, ◌<◌, ◌≤◌, List, [], ◌∷◌, ◌++◌, Option, Some, length, length-drop, get_or, take, drop, refl, sym, ap, subst, arith, append_assoc, append-nil, ◌∙◌}
+use Rattle.std.proofs.Common.{◌≡◌, ◌≢◌, absurd, ℕ, suc, ◌+◌, ◌<◌, ◌≤◌, List, [], ◌∷◌, ◌++◌, Option, Some, length, length-drop, get_or, take, drop, refl, sym, ap, subst, arith, append_assoc, append-nil, ◌∙◌}
 use Rattle.std.proofs.KnownBytes.{Appends-nil, Appends-trans}
 use Rattle.std.proofs.lemmas.List.{take_more, take_all, take-append-drop, length-take-le}
 use Rattle.std.proofs.lemmas.Grind.{get_or_after_one}
@@ -129,6 +129,23 @@ pub all_games : (games : List (List Move)) (g : List Move) (gs : List (List Move
 unfolding IsPgnText
 all_games games g gs a b c e (own, is, grows) (rest, further, more) =
     (own ++ rest, subst (λ (x : List (List Move)). IsPgnText x (own ++ rest)) (sym e) (own, rest, is, further, refl), Appends-trans a b c own rest grows more)
+
+-- a game alone
+pub one_game : (games : List (List Move)) (g : List Move) (a b : Option (List ℕ)) → games ≡ [] → AddsSome (IsGameText g) a b → AddsSome (IsPgnText (games ++ g ∷ [])) a b
+unfolding IsPgnText, AreFurther
+one_game games g a b none (own, is, grows) =
+    (own, subst (λ (x : List (List Move)). IsPgnText (x ++ g ∷ []) own) (sym none) (own, [], is, refl, sym (append-nil own)), grows)
+
+pgn_more : (games : List (List Move)) (g : List Move) (text own : List ℕ) → games ≢ [] → IsPgnText games text → IsGameText g own → IsPgnText (games ++ g ∷ []) (text ++ (codes "\n" ++ own))
+unfolding IsPgnText
+pgn_more [] g text own some none is = absurd (some refl)
+pgn_more (x ∷ xs) g text own some (first, rest, said, more, e) is =
+    (first, rest ++ (codes "\n" ++ own), said, further_more xs g rest own more is, ap (λ (l : List ℕ). l ++ (codes "\n" ++ own)) e ∙ append_assoc first rest (codes "\n" ++ own))
+
+-- games, and one behind them
+pub games_and : (games : List (List Move)) (g : List Move) (a b c d : Option (List ℕ)) → games ≢ [] → AddsSome (IsPgnText games) a b → Appends b c (codes "\n") → AddsSome (IsGameText g) c d → AddsSome (IsPgnText (games ++ g ∷ [])) a d
+games_and games g a b c d some (text, are, grows) feed (own, is, more) =
+    (text ++ (codes "\n" ++ own), pgn_more games g text own some are is, Appends-trans a b d text (codes "\n" ++ own) grows (Appends-trans b c d (codes "\n") own feed more))
 
 -- ---- answers
 pub on_ok : {A E : Type 0} (r : Result A E) (P Q : Type 0) → (P → Q) → OnOk r P → OnOk r Q

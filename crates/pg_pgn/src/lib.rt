@@ -27,4 +27,4 @@ pub use laws::{one_file_of_games, written_games_are_read};
 pub use letters::Letters;
 pub use listing::write_list;
 pub use reading::read_pgn;
-pub use writing::{write_game, write_pgn};
+pub use writing::{write_game, write_pgn, write_pgn_and};

@@ -1,17 +1,16 @@
 //! Writing games.
-ghost use Rattle.std.specs.Prelude.{◌≡◌, ◌+◌, ◌<◌, ◌≤◌, ◌++◌, length, drop, IfOk, IfErr, OnOk, OnErr, true, false};
+ghost use Rattle.std.specs.Prelude.{◌≡◌, ◌+◌, ◌<◌, ◌≤◌, ◌++◌, ◌∷◌, [], length, drop, IfOk, IfErr, OnOk, OnErr, MatchOption, IfSome, Some, slice_get, true, false};
 ghost use Rattle.pg_certificate.specs.Pushing.{Adds, AddsSome, MayPush, Pushes};
 ghost use Rattle.pg_position.specs.Step.{Legal};
 ghost use Rattle.pg_san.specs.Games.{IsFromArray};
 ghost use Rattle.pg_pgn.specs.Writing.{gap, columns, spaced, number, number_text, number_columns, IsGameText};
 ghost use Rattle.pg_pgn.specs.Writing.{AreFurther, IsPgnText, AddsPly, AddsAllMoves};
 
-use crate::games::PgnGames;
 use arrayvec::ArrayString;
 use pg_certificate::{Refused, Sink, WriteFault};
 use pg_fen::text::{digits, put};
 use pg_position::{Move, Position};
-use pg_san::write_with;
+use pg_san::{Games, write_with};
 
 // A line has fewer columns.
 const WIDTH: usize = 80;
@@ -136,7 +135,7 @@ fn append_game<W: Sink>(game: &[Move], out: &mut W) -> Result<(), Refused>
 }
 
 // Appends the games but the first.
-fn append_further<W: Sink>(games: &PgnGames, out: &mut W) -> Result<(), Refused>
+fn append_further<W: Sink>(games: &Games, out: &mut W) -> Result<(), Refused>
     ensures { MayPush W.held W.has_failed (AddsSome (AreFurther (drop 1 games.now))) out.old out.new result }
 {
     for i in 1..games.len() {
@@ -150,16 +149,40 @@ fn append_further<W: Sink>(games: &PgnGames, out: &mut W) -> Result<(), Refused>
     Ok(())
 }
 
-fn append_games<W: Sink>(games: &PgnGames, out: &mut W) -> Result<(), Refused>
+// The first game of a list.
+fn first_of(games: &Games) -> Option<&[Move]>
+    ensures first { MatchOption result (length games.now ≡ 0) (λ g. slice_get games.now 0 ≡ Some g.now) }
+    ensures legal { IfSome result (λ g. IsFromArray g.now) }
+{
+    if games.len() == 0 {
+        return None;
+    }
+    games.game(0)
+}
+
+fn append_games<W: Sink>(games: &Games, out: &mut W) -> Result<(), Refused>
     ensures { MayPush W.held W.has_failed (AddsSome (IsPgnText games.now)) out.old out.new result }
 {
-    match games.game(0) {
+    match first_of(games) {
         None => Ok(()),
         Some(first) => {
             append_game(first, out)?;
             append_further(games, out)
         }
     }
+}
+
+// Appends the games, and another one behind them.
+fn append_and<W: Sink>(games: &Games, last: &[Move], out: &mut W) -> Result<(), Refused>
+    requires { IsFromArray last.now }
+    ensures { Pushes W.held W.has_failed (AddsSome (IsPgnText (games.now ++ last.now ∷ []))) out.old out.new result }
+{
+    if games.len() == 0 {
+        return append_game(last, out);
+    }
+    append_games(games, out)?;
+    out.push(b"\n")?;
+    append_game(last, out)
 }
 
 /// Writes a game from the initial array: the seven tags of which nothing is known, an empty line, and the movetext in
@@ -178,15 +201,34 @@ pub fn write_game<W: Sink>(game: &[Move], out: &mut W) -> Result<(), WriteFault>
     }
 }
 
-/// Writes the games of a file, an empty line between two, each as by `write_game`. Takes no memory.
+/// Writes the games of a list in canonical order, an empty line between two, each as by `write_game`. Takes no memory.
 ///
 /// # Errors
 /// `Write` where the sink has failed.
-pub fn write_pgn<W: Sink>(games: &PgnGames, out: &mut W) -> Result<(), WriteFault>
+pub fn write_pgn<W: Sink>(games: &Games, out: &mut W) -> Result<(), WriteFault>
     ensures push { MayPush W.held W.has_failed (AddsSome (IsPgnText games.now)) out.old out.new result }
     ensures fault { IfErr result (λ e. e ≡ WriteFault.Write) }
 {
     match append_games(games, out) {
+        Ok(()) => Ok(()),
+        Err(Refused) => Err(WriteFault::Write),
+    }
+}
+
+/// Writes the games of a list as `write_pgn` does, and another game behind them. Takes no memory.
+///
+/// # Errors
+/// `Write` where the sink has failed.
+pub fn write_pgn_and<W: Sink>(
+    games: &Games,
+    last: &[Move],
+    out: &mut W,
+) -> Result<(), WriteFault>
+    requires { IsFromArray last.now }
+    ensures push { Pushes W.held W.has_failed (AddsSome (IsPgnText (games.now ++ last.now ∷ []))) out.old out.new result }
+    ensures fault { IfErr result (λ e. e ≡ WriteFault.Write) }
+{
+    match append_and(games, last, out) {
         Ok(()) => Ok(()),
         Err(Refused) => Err(WriteFault::Write),
     }

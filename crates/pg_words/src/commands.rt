@@ -403,6 +403,20 @@ const JOURNEYS_ACCEPTED: Word = Word {
     help: "Changes nothing: journeys are asked always",
 };
 
+// Games as PGN, in place of a report.
+const AS_PGN: Word = Word {
+    name: "pgn",
+    kind: Kind::Flag,
+    help: "Prints the games as PGN, in place of the report",
+};
+
+// The same beside certificates.
+const PGN_KEPT: Word = Word {
+    name: "pgn",
+    kind: Kind::Flag,
+    help: "Writes the games as NAME.pgn beside each certificate too",
+};
+
 // Tariffs, where a certificate is written.
 const TOLLS: Word = Word {
     name: "tolls",
@@ -489,6 +503,7 @@ const COMMANDS: [Entry; 15] = [
             NODES_JUDGED,
             MINUTES,
             BYTES,
+            AS_PGN,
             JOURNEYS_ACCEPTED,
         ],
     },
@@ -514,7 +529,7 @@ const COMMANDS: [Entry; 15] = [
         name: "games",
         about: "Prints what a list of games shows by itself",
         below: GAMES_EXAMPLE,
-        words: &[DIAGRAM, LENGTH, GAMES],
+        words: &[DIAGRAM, LENGTH, GAMES, AS_PGN],
     },
     Entry {
         name: "cooks",
@@ -534,13 +549,14 @@ const COMMANDS: [Entry; 15] = [
             RECORDS,
             JOURNEYS_TAKEN,
             TOLLS_TAKEN,
+            AS_PGN,
         ],
     },
     Entry {
         name: "answer",
         about: "Checks a certificate by itself, and prints the report of its games",
         below: ANSWER_EXAMPLE,
-        words: &[CERTIFICATE, RECORDS, JOURNEYS_ACCEPTED],
+        words: &[CERTIFICATE, RECORDS, AS_PGN, JOURNEYS_ACCEPTED],
     },
     Entry {
         name: "search",
@@ -567,6 +583,7 @@ const COMMANDS: [Entry; 15] = [
             PROBLEMS,
             FOLDER,
             REPLACED,
+            PGN_KEPT,
             NODES_JUDGED,
             MINUTES_JUDGED,
             BYTES_JUDGED,

@@ -13,8 +13,8 @@ returns g c =
     let is = c.in-Ok.ensures.problem in
     let text = c.in-Ok.ensures.games in
     record {
-      ok = tells c.check_on-answer.result _ _ c.check_on-answer.ensures.headline
+      ok = tells c.check_told-answer.result _ _ c.check_told-answer.ensures.headline
           (λ s h. given_so c.args.problem l.problem _ is (text.0, l.games, text.1, h));
-      err = tells_why c.check_on-answer.result _ _ c.check_on-answer.ensures.found
+      err = tells_why c.check_told-answer.result _ _ c.check_told-answer.ensures.found
           (λ r h. inr (inr (given_so c.args.problem l.problem (λ d n. IsUnchecked d n r) is (inr (text.0, l.games, text.1, h)))));
     }

@@ -1,11 +1,11 @@
-use Rattle.pg_judge.specs.Findings.{IsTextOf}
-use Rattle.pg_cli.proofs.StatusLemmas.{has_on}
-use Rattle.pg_cli.proofs.WrittenLemmas.{handed}
+use Rattle.std.proofs.Common.{Bool, subst, sym}
+use Rattle.std.specs.Prelude.{IfOk}
+use Rattle.pg_certificate.specs.Pushing.{AddsSome}
+use Rattle.pg_cli.specs.Solving.{IsSolvedWith}
+use Rattle.pg_cli.proofs.WrittenLemmas.{held_by}
 use Rattle.pg_cli.proofs.solving.tell_finding.Goals as goal
 
-pub returns-in-Ok : goal.returns-in-Ok
-returns-in-Ok g c =
-    let finding = c.args.ruling.now.finding in
-    has_on c.finished.result c.status_of.result _ _ c.finished.ensures.ok c.finished.ensures.handed (λ kept.
-    let all = handed g.W.Sink.held c.args.out.now c.write_finding.new.out c.finished.new.out (IsTextOf c.args.entry.now finding) c.in-Ok.ensures.text.text kept in
-    (all.0, (finding, c.requires, all.1, c.status_of.ensures), all.2))
+pub returns-if : goal.returns-if
+returns-if g c =
+    let e = c.args.entry.now in
+    subst (λ (b : Bool). IfOk c.send_finding.result (λ status. AddsSome (IsSolvedWith b e.problem.diagram e.problem.length e.games status) _ _)) (sym c.if-as_pgn.true) c.send_finding.ensures

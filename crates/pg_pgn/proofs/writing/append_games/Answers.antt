@@ -7,8 +7,7 @@ use Rattle.pg_pgn.proofs.writing.append_games.Goals as goal
 
 pub returns-in-None : goal.returns-in-None
 returns-in-None g c =
-    let none : length c.args.games.now ≡ 0 = omega (arith, c.in-None.ensures.game) in
-    record { text = no_games c.args.games.now (g.W.Sink.held c.args.out.now) (nil_from_length c.args.games.now none); runs = refl; fault = tt }
+    record { text = no_games c.args.games.now (g.W.Sink.held c.args.out.now) (nil_from_length c.args.games.now c.in-None.ensures.first); runs = refl; fault = tt }
 
 pub returns-in_ok-append_game-in-Some : goal.returns-in_ok-append_game-in-Some
 returns-in_ok-append_game-in-Some g c =
@@ -16,7 +15,7 @@ returns-in_ok-append_game-in-Some g c =
     record {
       text =
           on_ok c.append_further.result (AddsSome (AreFurther (drop 1 c.args.games.now)) (g.W.Sink.held c.append_game.new.out) (g.W.Sink.held c.append_further.new.out)) (AddsSome (IsPgnText c.args.games.now) (g.W.Sink.held c.args.out.now) (g.W.Sink.held c.append_further.new.out))
-          (all_games c.args.games.now c.in-Some.first.now (drop 1 c.args.games.now) (g.W.Sink.held c.args.out.now) (g.W.Sink.held c.append_game.new.out) (g.W.Sink.held c.append_further.new.out) (first_of c.args.games.now c.in-Some.first.now c.in-Some.ensures.game) first.text)
+          (all_games c.args.games.now c.in-Some.first.now (drop 1 c.args.games.now) (g.W.Sink.held c.args.out.now) (g.W.Sink.held c.append_game.new.out) (g.W.Sink.held c.append_further.new.out) (first_of c.args.games.now c.in-Some.first.now c.in-Some.ensures.first) first.text)
           c.append_further.ensures.text;
       runs = on_ok c.append_further.result (g.W.Sink.has_failed c.append_further.new.out ≡ g.W.Sink.has_failed c.append_game.new.out) (g.W.Sink.has_failed c.append_further.new.out ≡ g.W.Sink.has_failed c.args.out.now) (λ e. e ∙ first.runs.1 ∙ sym first.runs.0) c.append_further.ensures.runs;
       fault = c.append_further.ensures.fault;
