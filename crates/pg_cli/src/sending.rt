@@ -28,11 +28,7 @@ use std::rt::Runtime;
 //
 // # Errors
 // `Check` with `Write` where writing is refused.
-pub(crate) fn send<W: Sink>(
-    games: &Games,
-    status: u8,
-    out: &mut Gathered<W>,
-) -> Result<u8, Refusal>
+pub(crate) fn send<W: Sink>(games: &Games, status: u8, out: &mut Gathered<W>) -> Result<u8, Refusal>
     ensures ok { IfOk result (λ s. s ≡ status) }
     ensures text { OnOk result (AddsSome (IsPgnText games.now)
         (⟦<Gathered<W> as Sink>⟧.held out.old) (W.held (sink_of out.new))) }

@@ -132,7 +132,7 @@ all_games games g gs a b c e (own, is, grows) (rest, further, more) =
 
 -- a game alone
 pub one_game : (games : List (List Move)) (g : List Move) (a b : Option (List ℕ)) → games ≡ [] → AddsSome (IsGameText g) a b → AddsSome (IsPgnText (games ++ g ∷ [])) a b
-unfolding IsPgnText, AreFurther
+unfolding IsPgnText AreFurther
 one_game games g a b none (own, is, grows) =
     (own, subst (λ (x : List (List Move)). IsPgnText (x ++ g ∷ []) own) (sym none) (own, [], is, refl, sym (append-nil own)), grows)
 

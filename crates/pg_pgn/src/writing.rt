@@ -219,11 +219,7 @@ pub fn write_pgn<W: Sink>(games: &Games, out: &mut W) -> Result<(), WriteFault>
 ///
 /// # Errors
 /// `Write` where the sink has failed.
-pub fn write_pgn_and<W: Sink>(
-    games: &Games,
-    last: &[Move],
-    out: &mut W,
-) -> Result<(), WriteFault>
+pub fn write_pgn_and<W: Sink>(games: &Games, last: &[Move], out: &mut W) -> Result<(), WriteFault>
     requires { IsFromArray last.now }
     ensures push { Pushes W.held W.has_failed (AddsSome (IsPgnText (games.now ++ last.now ∷ []))) out.old out.new result }
     ensures fault { IfErr result (λ e. e ≡ WriteFault.Write) }

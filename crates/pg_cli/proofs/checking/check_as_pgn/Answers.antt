@@ -17,6 +17,9 @@ returns-in-Ok g c =
     record {
       headline = has c.send.result c.verdict_status.result _ c.send.ensures.ok (c.in-Ok.ensures.headline, (c.in-Ok.verdict, c.in-Ok.ensures.verdict, c.verdict_status.ensures));
       text = c.send.ensures.text;
-      found = tells_why c.send.result _ _ c.send.ensures.err (λ r e. (t, failed,
-          subst (λ (x : Refusal). IsFoundRefusal l.problem.diagram l.problem.length l.games t failed x) (sym e) (c.in-Ok.ensures.headline, refl, c.in-Ok.ensures.accepted)));
+      found = tells_why c.send.result _ _ c.send.ensures.err (λ r e. (
+        t,
+        failed,
+        subst (λ (x : Refusal). IsFoundRefusal l.problem.diagram l.problem.length l.games t failed x) (sym e) (c.in-Ok.ensures.headline, refl, c.in-Ok.ensures.accepted),
+      ));
     }
