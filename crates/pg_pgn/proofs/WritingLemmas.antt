@@ -142,6 +142,10 @@ pgn_more [] g text own some none is = absurd (some refl)
 pgn_more (x ∷ xs) g text own some (first, rest, said, more, e) is =
     (first, rest ++ (codes "\n" ++ own), said, further_more xs g rest own more is, ap (λ (l : List ℕ). l ++ (codes "\n" ++ own)) e ∙ append_assoc first rest (codes "\n" ++ own))
 
+-- games are some where their number is not 0
+pub some_games : (games : List (List Move)) (n : ℕ) → n ≡ length games → n ≢ 0 → games ≢ []
+some_games games n many some none = some (many ∙ ap (λ (x : List (List Move)). length x) none)
+
 -- games, and one behind them
 pub games_and : (games : List (List Move)) (g : List Move) (a b c d : Option (List ℕ)) → games ≢ [] → AddsSome (IsPgnText games) a b → Appends b c (codes "\n") → AddsSome (IsGameText g) c d → AddsSome (IsPgnText (games ++ g ∷ [])) a d
 games_and games g a b c d some (text, are, grows) feed (own, is, more) =
