@@ -1,9 +1,11 @@
 //! Games in PGN.
 
 use pg_certificate::ToWrite;
-use pg_pgn::{Letters, PgnFault, PgnGames, fitting, letters_of, name_of, read_pgn, write_pgn};
+use pg_pgn::{
+    Letters, PgnFault, PgnGames, fitting, letters_of, name_of, read_pgn, write_pgn, write_pgn_and,
+};
 use pg_position::{Move, Position};
-use pg_san::{San, write};
+use pg_san::{Games, San, read_games, write};
 use std::alloc::AllocError;
 use std::process::Abort;
 
@@ -135,11 +137,14 @@ fn languages_that_fit(rt: HostRuntime) {
     }
 }
 
-// Two games, and how they are written.
+// Two games, how they are written in canonical order, and how with a third one behind them.
 const GAMES: &str =
-    "1.e4 e5 2.Nf3 Nc6 3.Bb5 a6 4.Ba4 Nf6 5.O-O Be7 6.Re1 b5 7.Bb3 d6 8.c3 O-O 9.h3 * *";
+    "1. e4 e5 2. Nf3 Nc6 3. Bb5 a6 4. Ba4 Nf6 5. O-O Be7 6. Re1 b5 7. Bb3 d6 8. c3 O-O 9. h3
+1. d4";
 
-const WRITTEN: &str = r#"[Event "?"]
+const THIRD: &str = "1. Nf3";
+
+const TAGS: &str = r#"[Event "?"]
 [Site "?"]
 [Date "????.??.??"]
 [Round "?"]
@@ -147,31 +152,68 @@ const WRITTEN: &str = r#"[Event "?"]
 [Black "?"]
 [Result "*"]
 
-1. e4 e5 2. Nf3 Nc6 3. Bb5 a6 4. Ba4 Nf6 5. O-O Be7 6. Re1 b5 7. Bb3 d6 8. c3
-O-O 9. h3 *
-
-[Event "?"]
-[Site "?"]
-[Date "????.??.??"]
-[Round "?"]
-[White "?"]
-[Black "?"]
-[Result "*"]
-
-*
 "#;
 
-fn check_written<R: Abort + AllocGlobal>(rt: &R, text: &str, wanted: &str) {
-    let Ok(games) = read_pgn(rt.alloc(), text.as_bytes(), Letters::English) else {
-        panic!(rt; "no games");
-    };
+const MOVETEXTS: [&str; 3] = [
+    "1. d4 *\n",
+    "1. e4 e5 2. Nf3 Nc6 3. Bb5 a6 4. Ba4 Nf6 5. O-O Be7 6. Re1 b5 7. Bb3 d6 8. c3\nO-O 9. h3 *\n",
+    "1. Nf3 *\n",
+];
+
+// The games of a list.
+fn listed<R: Abort + AllocGlobal>(rt: &R, list: &str) -> Games {
+    read_games(rt.alloc(), list).expect(rt, list)
+}
+
+// The games of these movetexts in PGN.
+fn pgn_of<R: Abort + AllocGlobal>(rt: &R, movetexts: &[&str]) -> String {
+    let mut text = String::new(rt.alloc());
+    for movetext in movetexts {
+        if !text.is_empty() {
+            text.push_str("\n").expect(rt, "memory");
+        }
+        text.push_str(TAGS).expect(rt, "memory");
+        text.push_str(movetext).expect(rt, "memory");
+    }
+    text
+}
+
+// The bytes that are written of the games of a list, and of another one behind them where there is one.
+fn written<R: Abort + AllocGlobal>(rt: &R, list: &str, another: Option<&str>) -> Vec<u8> {
+    let games = listed(rt, list);
     let mut out = ToWrite::new(Vec::new(rt.alloc()));
-    assert!(rt; write_pgn(&games, &mut out).is_ok());
-    let bytes = out.into_inner();
-    assert!(rt; bytes.as_slice() == wanted.as_bytes());
+    match another {
+        Some(another) => {
+            let last = listed(rt, another);
+            let game = last.game(0).expect(rt, "a game");
+            assert!(rt; write_pgn_and(&games, game, &mut out).is_ok());
+        }
+        None => assert!(rt; write_pgn(&games, &mut out).is_ok()),
+    }
+    out.into_inner()
 }
 
 #[test]
 fn games_are_written(rt: HostRuntime) {
-    check_written(&rt, GAMES, WRITTEN);
+    let [short, long, third] = MOVETEXTS;
+    let two = pgn_of(&rt, &[short, long]);
+    assert!(rt; written(&rt, GAMES, None).as_slice() == two.as_bytes());
+    let three = pgn_of(&rt, &[short, long, third]);
+    assert!(rt; written(&rt, GAMES, Some(THIRD)).as_slice() == three.as_bytes());
+    let one = pgn_of(&rt, &[third]);
+    assert!(rt; written(&rt, THIRD, None).as_slice() == one.as_bytes());
+}
+
+// That the text written of games is read as these games.
+#[test]
+fn written_games_are_read(rt: HostRuntime) {
+    let text = written(&rt, GAMES, None);
+    let games = listed(&rt, GAMES);
+    let Ok(read) = read_pgn(rt.alloc(), text.as_slice(), Letters::English) else {
+        panic!(rt; "no games");
+    };
+    assert!(rt; read.len() == games.len());
+    for i in 0..games.len() {
+        assert!(rt; read.game(i) == games.game(i), "{i}");
+    }
 }
