@@ -179,7 +179,7 @@ fn pgn_of<R: Abort + AllocGlobal>(rt: &R, movetexts: &[&str]) -> String {
 }
 
 // The bytes that are written of the games of a list, and of another one behind them where there is one.
-fn written<R: Abort + AllocGlobal>(rt: &R, list: &str, another: Option<&str>) -> Vec<u8> {
+fn pgn_written<R: Abort + AllocGlobal>(rt: &R, list: &str, another: Option<&str>) -> Vec<u8> {
     let games = listed(rt, list);
     let mut out = ToWrite::new(Vec::new(rt.alloc()));
     match another {
@@ -197,17 +197,17 @@ fn written<R: Abort + AllocGlobal>(rt: &R, list: &str, another: Option<&str>) ->
 fn games_are_written(rt: HostRuntime) {
     let [short, long, third] = MOVETEXTS;
     let two = pgn_of(&rt, &[short, long]);
-    assert!(rt; written(&rt, GAMES, None).as_slice() == two.as_bytes());
+    assert!(rt; pgn_written(&rt, GAMES, None).as_slice() == two.as_bytes());
     let three = pgn_of(&rt, &[short, long, third]);
-    assert!(rt; written(&rt, GAMES, Some(THIRD)).as_slice() == three.as_bytes());
+    assert!(rt; pgn_written(&rt, GAMES, Some(THIRD)).as_slice() == three.as_bytes());
     let one = pgn_of(&rt, &[third]);
-    assert!(rt; written(&rt, THIRD, None).as_slice() == one.as_bytes());
+    assert!(rt; pgn_written(&rt, THIRD, None).as_slice() == one.as_bytes());
 }
 
 // That the text written of games is read as these games.
 #[test]
 fn written_games_are_read(rt: HostRuntime) {
-    let text = written(&rt, GAMES, None);
+    let text = pgn_written(&rt, GAMES, None);
     let games = listed(&rt, GAMES);
     let Ok(read) = read_pgn(rt.alloc(), text.as_slice(), Letters::English) else {
         panic!(rt; "no games");
