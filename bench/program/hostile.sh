@@ -261,6 +261,7 @@ printf '\xef\xbb\xbf[White "N. N."]\r\n\r\n1. e4 {best} d5 (1... e5 2. Sf3)\r\n2
 echo 'e4 d5 exd5 Dxd5' >"$work/german.pgn"
 echo '[FEN "8/8"]' >"$work/fen.pgn"
 recapture='1. e4 d5 2. exd5 Qxd5'
+printf '1. d3 e6 2. e3\n1. e3 e6 2. d3\n' >"$work/both"
 for name in ../mail.pgn '- <../mail.pgn' '../german.pgn --letters german'; do
   expect 0 '' "\"\$pg\" pgn $name" "$recapture"
 done
@@ -273,6 +274,26 @@ expect 2 'pg: line 1, column 4: game 1, ply 2: Sf6 is not a move' 'echo "e4 Sf6"
 expect 2 'pg: line 1, column 1: game 1: the tag FEN sets up a position' '"$pg" pgn ../fen.pgn' ''
 expect 4 'pg: write fault' '"$pg" pgn ../mail.pgn >/dev/full' ''
 expect 4 'pg: read fault' 'yes | "$pg" pgn -' ''
+# Games go out as PGN, and come back as the report has them, with its status; after no yes nothing is printed.
+while IFS='|' read -r status words input; do
+  "$pg" $words <"$work/$input" 2>/dev/null >"$work/report"
+  told=$(sed -n '/^games /,${/^[1-9]/p;}' "$work/report")
+  expect "$status" '' "\"\$pg\" $words --pgn <../$input >../sent.pgn"
+  expect 0 '' '"$pg" pgn ../sent.pgn' "$told"
+done <<END
+0|answer ../open.pgc|files/empty
+1|answer ../orders.pgc|files/empty
+1|answer ../short.pgc|files/empty
+0|check $queen 2.0 good.pgc|files/games
+0|games $queen 2.0|files/games
+1|games $orders 1.5|both
+0|solve $queen 2.0|files/empty
+1|solve $orders 1.5|files/empty
+1|solve $unreachable 1.0 --minutes 1|files/empty
+END
+expect 1 'pg: truncated certificate' '"$pg" answer ../cut.pgc --pgn' ''
+expect 1 'pg: unlisted game: 1. e4 d5 2. exd5 Qxd5' '"$pg" check $queen 2.0 good.pgc empty --pgn' ''
+expect 4 'pg: write fault' '"$pg" answer good.pgc --pgn >/dev/full' ''
 ended=$(printf '%s\n' "$recapture" "diagram $queen" 'length 2.0' "fen $queen w KQkq - 0 3")
 for moves in '"e4 d5 exd5 Qxd5"' '- <games'; do expect 0 '' "\"\$pg\" end $moves" "$ended"; done
 expect 0 '' '"$pg" end - <empty' ''
