@@ -136,12 +136,12 @@ fn check_as_pgn<S: Source, W: Sink>(
     ensures found { IfErr result (λ refusal. (t : Terms) × (failed : Failures) × IsFoundRefusal
         listed.now.problem.diagram listed.now.problem.length listed.now.games t failed refusal) }
 {
-    let Problem { diagram, length } = &listed.problem;
+    let asked = &listed.problem;
     let mut unread = ToWrite::new(io::sink());
     match run_listed(
         alloc,
-        diagram,
-        *length,
+        &asked.diagram,
+        asked.length,
         &listed.games,
         bounds,
         source,
@@ -150,7 +150,7 @@ fn check_as_pgn<S: Source, W: Sink>(
         MOST_NAMED,
     ) {
         Ok(verdict) => send(&listed.games, verdict_status(verdict), out),
-        Err(fault) => Err(Refusal::Check(fault)),
+        Err(cause) => Err(Refusal::Check(cause)),
     }
 }
 

@@ -138,8 +138,9 @@ fn send_finding<W: Sink>(
         (IsSolvedWith true entry.now.problem.diagram entry.now.problem.length entry.now.games status)
         (⟦<Gathered<W> as Sink>⟧.held out.old) (W.held (sink_of out.new))) }
 {
+    let status = status_of(ruling);
     match write_found(entry, &ruling.finding, out) {
-        Ok(()) => finished(status_of(ruling), out),
+        Ok(()) => finished(status, out),
         Err(_) => Err(Refusal::Check(RunFault::Write)),
     }
 }

@@ -7,6 +7,6 @@ use Rattle.pg_cli.proofs.solving.send_finding.Goals as goal
 pub returns-in-Ok : goal.returns-in-Ok
 returns-in-Ok g c =
     let finding = c.args.ruling.now.finding in
-    has_on c.finished.result c.status_of.result _ _ c.finished.ensures.ok c.finished.ensures.handed (λ kept.
+    has_on c.finished.result c.status_of-status.result _ _ c.finished.ensures.ok c.finished.ensures.handed (λ kept.
     let all = handed g.W.Sink.held c.args.out.now c.write_found.new.out c.finished.new.out (IsPgnText (games_of c.args.entry.now.games finding)) c.in-Ok.ensures kept in
-    (all.0, (finding, c.requires, all.1, c.status_of.ensures), all.2))
+    (all.0, (finding, c.requires, all.1, c.status_of-status.ensures), all.2))
