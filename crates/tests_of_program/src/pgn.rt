@@ -1,7 +1,8 @@
 //! Games in PGN.
 
 use pg_certificate::ToWrite;
-use pg_pgn::{Letters, PgnFault, PgnGames, fitting, letters_of, name_of, read_pgn, write_pgn};
+use pg_pgn::{Letters, PgnFault, PgnGames, fitting, letters_of, name_of, read_pgn};
+use pg_pgn::{write_pgn, write_problems};
 use pg_position::{Move, Position};
 use pg_san::{San, write};
 use std::alloc::AllocError;
@@ -174,4 +175,50 @@ fn check_written<R: Abort + AllocGlobal>(rt: &R, text: &str, wanted: &str) {
 #[test]
 fn games_are_written(rt: HostRuntime) {
     check_written(&rt, GAMES, WRITTEN);
+}
+
+// Games with tags and without.
+const TAGGED: &str = r#"[Event "A. B. \"C\""]
+[White "W"]
+
+1. e4 {[Event "X"]} (1. d4) e5 1-0
+
+[Event "?"]
+[White ".Nagy, é"]
+
+1. d4 *
+1. c4 1/2-1/2
+[Event "A. B. \"C\""]
+e4
+[Black "W"]
+d4 [Event ""]
+[White "a.b-c_d"]
+"#;
+
+// The list of problems that they are, with a bar in place of each tab.
+const LISTED: &str = "A._B.__C_|rnbqkbnr/pppp1ppp/8/4p3/4P3/8/PPPP1PPP/RNBQKBNR|1.0|1. e4 e5
+_Nagy___|rnbqkbnr/pppppppp/8/8/3P4/8/PPP1PPPP/RNBQKBNR|0.5|1. d4
+game_3|rnbqkbnr/pppppppp/8/8/2P5/8/PP1PPPPP/RNBQKBNR|0.5|1. c4
+A._B.__C__4|rnbqkbnr/pppppppp/8/8/4P3/8/PPPP1PPP/RNBQKBNR|0.5|1. e4
+game_5|rnbqkbnr/pppppppp/8/8/3P4/8/PPP1PPPP/RNBQKBNR|0.5|1. d4
+a.b-c_d|rnbqkbnr/pppppppp/8/8/8/8/PPPPPPPP/RNBQKBNR|0.0|-
+";
+
+fn check_listed<R: Abort + AllocGlobal>(rt: &R, text: &str, wanted: &str) {
+    let Ok(games) = read_pgn(rt.alloc(), text.as_bytes(), Letters::English) else {
+        panic!(rt; "no games");
+    };
+    let mut out = ToWrite::new(Vec::new(rt.alloc()));
+    assert!(rt; write_problems(rt.alloc(), text.as_bytes(), &games, &mut out).is_ok());
+    let bytes = out.into_inner();
+    let listed = std::str::from_utf8(bytes.as_slice()).expect(rt, "text");
+    match listed.replace(rt.alloc(), "\t", "|") {
+        Ok(listed) => assert_eq!(rt; listed.as_str(), wanted),
+        Err(_) => panic!(rt; "memory"),
+    }
+}
+
+#[test]
+fn games_are_problems(rt: HostRuntime) {
+    check_listed(&rt, TAGGED, LISTED);
 }
