@@ -46,7 +46,11 @@ fn is_name(word: &[u8]) -> bool
 fn as_name(text: &str) -> &str
     ensures { IsName result.now }
 {
-    if is_name(text.as_bytes()) { text } else { "game" }
+    if is_name(text.as_bytes()) {
+        text
+    } else {
+        "game"
+    }
 }
 
 // Appends a text and a tab.

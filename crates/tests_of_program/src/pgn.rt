@@ -1,8 +1,9 @@
 //! Games in PGN.
 
 use pg_certificate::ToWrite;
-use pg_pgn::{Letters, PgnFault, PgnGames, fitting, letters_of, name_of, read_pgn};
-use pg_pgn::{write_pgn, write_problems};
+use pg_pgn::{
+    Letters, PgnFault, PgnGames, fitting, letters_of, name_of, read_pgn, write_pgn, write_problems,
+};
 use pg_position::{Move, Position};
 use pg_san::{San, write};
 use std::alloc::AllocError;
