@@ -6,9 +6,8 @@ use Rattle.pg_board.specs.Placement.{Placement}
 use Rattle.pg_checker.specs.declared.fault.ProblemFault.{ProblemFault}
 use Rattle.pg_checker.specs.declared.problem.Problem.{Problem}
 use Rattle.pg_cli.specs.Answers.{OfGiven}
-use Rattle.pg_cli.specs.Judging.{IsListRefused}
 use Rattle.pg_cli.specs.Refusals.{refusal_status}
-use Rattle.pg_cli.specs.Runs.{IsCountRefusal, IsMovesRefusal, IsOfFile, IsOfGiven, IsOfInput, IsOfProblem, IsRefusedFor, IsSearchRefusal, IsShowRefusal, IsUnchecked}
+use Rattle.pg_cli.specs.Runs.{IsCountRefusal, IsListRefused, IsMovesRefusal, IsOfFile, IsOfGiven, IsOfInput, IsOfProblem, IsRefusedFor, IsSearchRefusal, IsShowRefusal, IsUnchecked}
 use Rattle.pg_cli.specs.Words.{IsStatus, OfCommand, OfPlies, OfSpelled, spelled}
 use Rattle.pg_cli.specs.declared.commands.Command.{Command}
 use Rattle.pg_cli.specs.declared.commands.Command.TheVariants.{Check, Search, Other}

@@ -4,7 +4,7 @@ use Rattle.std.specs.Prelude.{◌≡◌, ◌⊎◌, ℕ, max, Bool, true, List, 
 use Rattle.clap.specs.Words.{Text}
 use Rattle.pg_certificate.specs.Pushing.{AddsSome}
 use Rattle.pg_position.specs.declared.moves.Move.{Move}
-use Rattle.pg_pgn.specs.Pgn.{IsFile, IsFirstFault}
+use Rattle.pg_pgn.specs.Pgn.{IsFile}
 use Rattle.pg_pgn.specs.Problems.{AreProblems}
 use Rattle.pg_pgn.specs.declared.letters.Letters.TheVariants.{English}
 use Rattle.pg_san.specs.GameText.{lines}
@@ -18,13 +18,12 @@ use Rattle.pg_judge.specs.declared.given.Given.TheVariants.{NoGame, Solves}
 use Rattle.pg_judge.specs.declared.old.Old.{Old}
 use Rattle.pg_judge.specs.declared.ruling.Finding.{Finding}
 use Rattle.pg_judge.specs.declared.ruling.Ruling.{Ruling}
-use Rattle.pg_cli.specs.Runs.{IsOfFile}
 use Rattle.pg_cli.specs.declared.judging.Spoiled.{Spoiled}
 use Rattle.pg_cli.specs.declared.judging.Spoiled.TheVariants.{Run, Place}
 use Rattle.pg_cli.specs.declared.judging.Standing.{Standing}
 use Rattle.pg_cli.specs.declared.judging.Standing.TheVariants.{Shows, Shown}
 use Rattle.pg_cli.specs.declared.refusals.Refusal.{Refusal}
-use Rattle.pg_cli.specs.declared.refusals.Refusal.TheVariants.{Write, Memory, Pgn}
+use Rattle.pg_cli.specs.declared.refusals.Refusal.TheVariants.{Write, Memory}
 
 -- ---- a problem
 -- what it shows is true of the problem of an entry; what is told of it claims nothing
@@ -117,8 +116,3 @@ GivesList Gives name text = (given : List ℕ) × Gives name given × IsReadAs n
 -- what a status of `pg judge` says: those of a list of problems that the word PROBLEMS gives are
 abbrev pub IsListJudged : (Text → List ℕ → Type 0) → Text → ℕ → Type 0
 IsListJudged Gives name status = (text : List ℕ) × GivesList Gives name text × IsTextJudged text status
-
--- why `pg judge` has no status: a file or memory is refused; or bytes that are to be games in PGN, by their first fault
-abbrev pub IsListRefused : Text → Refusal → Type 0
-IsListRefused name (Pgn fault) = IsPgnName name × ((given : List ℕ) × IsFirstFault English given fault)
-IsListRefused name refusal = IsOfFile refusal

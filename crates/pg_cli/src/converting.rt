@@ -10,7 +10,8 @@ ghost use Rattle.pg_streams.specs.Buffer.{sink_of};
 ghost use Rattle.pg_texts.specs.Report.{AreGameLines};
 ghost use Rattle.pg_cli.specs.Answers.{IsGivenBy};
 ghost use Rattle.pg_cli.specs.Converting.{HasEnds, HasPgn, IsTyped};
-ghost use Rattle.pg_cli.specs.Judging.{ArePgnProblems, IsListRefused, IsPgnName, IsReadAs};
+ghost use Rattle.pg_cli.specs.Judging.{ArePgnProblems, IsPgnName, IsReadAs};
+ghost use Rattle.pg_cli.specs.Runs.{IsListRefused};
 ghost use Rattle.pg_cli.specs.Words.{spelled};
 
 use crate::checking::finished;

@@ -9,9 +9,8 @@ ghost use Rattle.pg_san.specs.GameText.{lines};
 ghost use Rattle.pg_streams.specs.Buffer.{IsHandedOn};
 ghost use Rattle.pg_cli.specs.Answers.{IsGivenBy};
 ghost use Rattle.pg_cli.specs.Judging.{AreJudged, EndsRun, GivesList, IsCutOff, IsFindingStatus, IsJudged};
-ghost use Rattle.pg_cli.specs.Judging.{IsListJudged, IsListRefused, IsRowStatus, IsRuled, IsSpoiled, IsStanding};
-ghost use Rattle.pg_cli.specs.Judging.{IsTextJudged};
-ghost use Rattle.pg_cli.specs.Runs.{IsOfFile};
+ghost use Rattle.pg_cli.specs.Judging.{IsListJudged, IsRowStatus, IsRuled, IsSpoiled, IsStanding, IsTextJudged};
+ghost use Rattle.pg_cli.specs.Runs.{IsListRefused, IsOfFile};
 ghost use Rattle.pg_cli.specs.Words.{spelled};
 
 use crate::bounds::{journeys_to, tolls_to, travel_to};
