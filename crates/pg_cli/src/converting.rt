@@ -173,7 +173,7 @@ fn problems_from(alloc: Global, given: &[u8]) -> Result<Vec<u8>, Refusal>
     let mut out = ToWrite::new(Vec::new(alloc));
     match write_problems(alloc, given, &games, &mut out) {
         Ok(()) => Ok(out.into_inner()),
-        Err(Refused) => Err(Refusal::Memory),
+        Err(_) => Err(Refusal::Memory),
     }
 }
 

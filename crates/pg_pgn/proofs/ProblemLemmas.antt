@@ -1,8 +1,8 @@
 -- A list of problems grows by the line of one game more. Leads to the contract of write_problems.
-use Rattle.std.proofs.Common.{◌≡◌, ℕ, ◌+◌, ◌<◌, ◌≤◌, List, [], ◌∷◌, ◌++◌, Option, Some, length, get_or, take, refl, sym, ap, subst, append_assoc, append-nil, ◌∙◌}
+use Rattle.std.proofs.Common.{◌≡◌, ℕ, ◌+◌, ◌<◌, List, [], ◌∷◌, ◌++◌, Option, Some, length, get_or, take, refl, sym, ap, subst, append_assoc, append-nil, ◌∙◌}
 use Rattle.std.specs.Prelude.{slice_get}
 use Rattle.std.proofs.KnownBytes.{Appends-nil, Appends-trans}
-use Rattle.std.proofs.lemmas.List.{take_more, take_all}
+use Rattle.std.proofs.lemmas.List.{take_more}
 use Rattle.std.proofs.lemmas.Option.{get_or_from_slice_get}
 use Rattle.std.specs.Io.KnownBytes.{Appends}
 use Rattle.pg_certificate.specs.Pushing.{AddsSome}
@@ -40,9 +40,6 @@ one_problem_more games n g a b c low at (text, are, grows) (one, is, more) =
       subst (λ (x : List (List Move)). AreProblems x (text ++ one)) (sym e) (problems_more (take n games) g text one are is),
       Appends-trans a b c text one grows more,
     )
-
-pub all_problems : (games : List (List Move)) (n : ℕ) (a b : Option (List ℕ)) → length games ≤ n → AddsSome (AreProblems (take n games)) a b → AddsSome (AreProblems games) a b
-all_problems games n a b l h = subst (λ (x : List (List Move)). AddsSome (AreProblems x) a b) (take_all n games l) h
 
 played : (p : State) (n : ℕ) (game : List Move) (q : State) (still : ℕ) → Plays p n game q still → IsGame p game q
 unfolding Plays

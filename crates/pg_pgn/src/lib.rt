@@ -22,7 +22,7 @@ mod words;
 mod writing;
 
 pub use ends::write_ends;
-pub use fault::{FormFault, PgnFault};
+pub use fault::{FormFault, PgnFault, ProblemsFault};
 pub use games::PgnGames;
 pub use languages::{fitting, letters_of, name_of};
 pub use laws::{one_file_of_games, written_games_are_read};

@@ -8,7 +8,7 @@ use crate::tokens::{TokenKind, body, kind_at};
 use crate::words::{word_sign, write_said};
 use arrayvec::ArrayString;
 use pg_fen::text::digits;
-use std::alloc::Global;
+use std::alloc::{AllocError, Global};
 use std::collections::BTreeSet;
 
 // The most bytes that a name has before a number.
@@ -24,18 +24,21 @@ struct Walk<'t> {
     depth: usize,
 }
 
-// What a token says; nothing where memory is refused for its text.
-fn sign_of(token: &[u8], said: &mut String) -> Sign {
+// What a word says, whose text is written to `said`.
+fn sign_of_word(word: &[u8], said: &mut String) -> Result<Sign, AllocError> {
+    write_said(said, Letters::English, word)?;
+    Ok(word_sign(said.as_bytes()))
+}
+
+// What a token says.
+fn sign_of(token: &[u8], said: &mut String) -> Result<Sign, AllocError> {
     match kind_at(token) {
-        TokenKind::Word => match write_said(said, Letters::English, token) {
-            Ok(()) => word_sign(said.as_bytes()),
-            Err(_) => Sign::Nothing,
-        },
-        TokenKind::Tag => Sign::Heads,
-        TokenKind::Opens => Sign::Opening,
-        TokenKind::Closes => Sign::Closing,
-        TokenKind::Star => Sign::Result,
-        _ => Sign::Nothing,
+        TokenKind::Word => sign_of_word(token, said),
+        TokenKind::Tag => Ok(Sign::Heads),
+        TokenKind::Opens => Ok(Sign::Opening),
+        TokenKind::Closes => Ok(Sign::Closing),
+        TokenKind::Star => Ok(Sign::Result),
+        _ => Ok(Sign::Nothing),
     }
 }
 
@@ -83,7 +86,7 @@ struct Headed<'t> {
 }
 
 // The game at the front of a text: it ends at a result, or before a tag pair behind a move.
-fn first_game<'t>(text: &'t [u8], said: &mut String) -> Headed<'t> {
+fn first_game<'t>(text: &'t [u8], said: &mut String) -> Result<Headed<'t>, AllocError> {
     let mut walk = Walk {
         event: b"",
         white: b"",
@@ -95,7 +98,7 @@ fn first_game<'t>(text: &'t [u8], said: &mut String) -> Headed<'t> {
         let Some((token, after)) = cut(rest) else {
             break;
         };
-        let sign = sign_of(token, said);
+        let sign = sign_of(token, said)?;
         if walk.moved && sign == Sign::Heads {
             break;
         }
@@ -105,11 +108,11 @@ fn first_game<'t>(text: &'t [u8], said: &mut String) -> Headed<'t> {
             break;
         }
     }
-    Headed {
+    Ok(Headed {
         event: walk.event,
         white: walk.white,
         rest,
-    }
+    })
 }
 
 // A byte as it may stand in a name, behind another one or not; none where it goes on a character.
@@ -196,17 +199,20 @@ impl<'t> Names<'t> {
         }
     }
 
-    /// The name of the next game, with its number behind it where that name was told before or memory is refused.
-    pub(crate) fn next_name(&mut self) -> ArrayString<81> {
-        let game = first_game(self.rest, &mut self.said);
+    /// The name of the next game, with its number behind it where that name was told before.
+    ///
+    /// # Errors
+    /// Where memory is refused.
+    pub(crate) fn next_name(&mut self) -> Result<ArrayString<81>, AllocError> {
+        let game = first_game(self.rest, &mut self.said)?;
         self.rest = game.rest;
         self.count = self.count.saturating_add(1);
         let name = name_by(&game, self.count);
-        if let Ok(true) = self.told.insert(name) {
-            return name;
+        if self.told.insert(name)? {
+            return Ok(name);
         }
         let other = numbered(name.as_str(), self.count);
-        let _ = self.told.insert(other);
-        other
+        self.told.insert(other)?;
+        Ok(other)
     }
 }

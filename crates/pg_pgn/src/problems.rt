@@ -1,11 +1,13 @@
 //! The games of a file as a list of problems.
-ghost use Rattle.std.specs.Prelude.{◌≡◌, ◌↔◌, IsTrue};
+ghost use Rattle.std.specs.Prelude.{◌≡◌, ◌↔◌, IfErr, IsTrue, OnOk, true};
 ghost use Rattle.std.specs.List.{list_all};
-ghost use Rattle.pg_certificate.specs.Pushing.{Adds, AddsSome, MayPush, Pushes};
+ghost use Rattle.pg_certificate.specs.Pushing.{Adds, AddsSome, Pushes};
 ghost use Rattle.pg_san.specs.Games.{IsFromArray};
+ghost use Rattle.pg_pgn.specs.declared.fault.ProblemsFault.TheVariants as ProblemsFault;
 ghost use Rattle.pg_pgn.specs.Problems.{AreProblems, BeginsWell, IsName, IsProblem, field_text, is_fit};
 
 use crate::ends::{end_of, length_of};
+use crate::fault::ProblemsFault;
 use crate::games::PgnGames;
 use crate::naming::Names;
 use pg_certificate::{Refused, Sink};
@@ -77,28 +79,37 @@ fn write_problem<W: Sink>(name: &str, game: &[Move], out: &mut W) -> Result<(), 
 /// Appends the games of a file as a list of problems, a line a game in the file's order, each ended by a line feed: a
 /// name, the placement at the game's end, its length in moves such as `18.5`, and its movetext, parted by tabs. The name
 /// has letters and digits of ASCII, hyphens, underscores and dots, and begins with no dot. It is by the tag `Event` of
-/// `text`, which is the file, or else by `White`, its first 60 characters, with `_` in place of each other character;
-/// where neither has a letter or a digit it is `game` with `_` and the number of the game behind it, from 1. A name that
-/// stands above has the game's number behind it likewise. Where `text` is not the file, the names alone are others. The
-/// names that stand above are kept in memory of `alloc`; where that is refused, names have their numbers behind them.
+/// `text`, which is the file, or else by `White`: its first 60 characters, with `_` in place of each other character.
+/// Where neither has a letter or a digit it is `game` with `_` and the number of the game behind it, from 1. A name that
+/// stands above has the game's number behind it likewise. Where `text` is not the file, the names alone are others. They
+/// are kept in memory of `alloc`.
 ///
 /// # Errors
-/// `Refused` where the sink has failed.
+/// `Memory` where memory is refused for a name, with the lines of the first games appended, and `Write` where the sink
+/// has failed.
 pub fn write_problems<W: Sink>(
     alloc: Global,
     text: &[u8],
     games: &PgnGames,
     out: &mut W,
-) -> Result<(), Refused>
-    ensures { MayPush W.held W.has_failed (AddsSome (AreProblems games.now)) out.old out.new result }
+) -> Result<(), ProblemsFault>
+    ensures text { OnOk result (AddsSome (AreProblems games.now) (W.held out.old) (W.held out.new)) }
+    ensures runs { OnOk result (W.has_failed out.new ≡ W.has_failed out.old) }
+    ensures fault { IfErr result (λ e. e ≡ ProblemsFault.Write → W.has_failed out.new ≡ true) }
 {
     let mut names = Names::new(alloc, text);
     for i in 0..games.len() {
         let Some(game) = games.game(i) else {
             unreachable!();
         };
-        let name = names.next_name();
-        write_problem(as_name(name.as_str()), game, out)?;
+        let name = match names.next_name() {
+            Ok(name) => name,
+            Err(_) => return Err(ProblemsFault::Memory),
+        };
+        match write_problem(as_name(name.as_str()), game, out) {
+            Ok(()) => {}
+            Err(Refused) => return Err(ProblemsFault::Write),
+        }
     }
     Ok(())
 }
