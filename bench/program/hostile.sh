@@ -311,6 +311,14 @@ parted="the first two part$apart"
 orders_row=$(row orders 1.5 cooked - 'search, 63 nodes' '2 games: 1. d3 e6 2. e3; 1. e3 e6 2. d3; they part'"$apart")
 array_row=$(row array 0.0 sound solves 'search, 0 nodes' -)
 fails_row() { row array 0.0 sound "fails, $1" 'search, 0 nodes' -; }
+# Games of a file whose name ends in .pgn are problems, by their tags.
+printf '[Event "A queen"]\n[White "N. N."]\n\n1. e4 {best} d5 2. exd5 Qxd5 1-0\n\n*\n[White "A queen"]\n*\n' >"$work/two.pgn"
+queen_rows=$(printf '%s\tsound\tsolves\t%s\n' $'A_queen\t2.0' "$recapture" $'game_2\t0.0' - $'A_queen_3\t0.0' -)
+expect 0 '' '"$pg" judge ../two.pgn | cut -f 1-4,6' "$queen_rows"
+expect 2 'pg: line 1: bad name' 'head -n 1 ../two.pgn | "$pg" judge -' ''
+expect 2 'pg: line 1, column 12: game 1, ply 4: Dxd5 is not a move' '"$pg" judge ../german.pgn --hints' ''
+expect 2 'pg: line 1, column 1: game 1: the tag FEN sets up a position' '"$pg" judge ../fen.pgn' ''
+expect 4 'pg: cannot open ../none.pgn' '"$pg" judge ../none.pgn' ''
 while IFS='|' read -r status list said printed; do
   printf -- "$list" >"$work/list"
   said=$(printf '%b' "${said:+pg: $said}")

@@ -2,6 +2,7 @@ pub mod CommandLemmas
 pub mod EndLemmas
 pub mod JudgeLemmas
 pub mod KnowingLemmas
+pub mod PgnLemmas
 pub mod ShowLemmas
 pub mod SolveLemmas
 pub mod StatusLemmas

@@ -7,7 +7,7 @@ use Rattle.pg_checker.specs.declared.fault.ProblemFault.{ProblemFault}
 use Rattle.pg_checker.specs.declared.problem.Problem.{Problem}
 use Rattle.pg_cli.specs.Answers.{OfGiven}
 use Rattle.pg_cli.specs.Refusals.{refusal_status}
-use Rattle.pg_cli.specs.Runs.{IsCountRefusal, IsMovesRefusal, IsOfFile, IsOfGiven, IsOfInput, IsOfProblem, IsRefusedFor, IsSearchRefusal, IsShowRefusal, IsUnchecked}
+use Rattle.pg_cli.specs.Runs.{IsCountRefusal, IsListRefused, IsMovesRefusal, IsOfFile, IsOfGiven, IsOfInput, IsOfProblem, IsRefusedFor, IsSearchRefusal, IsShowRefusal, IsUnchecked}
 use Rattle.pg_cli.specs.Words.{IsStatus, OfCommand, OfPlies, OfSpelled, spelled}
 use Rattle.pg_cli.specs.declared.commands.Command.{Command}
 use Rattle.pg_cli.specs.declared.commands.Command.TheVariants.{Check, Search, Other}
@@ -42,7 +42,7 @@ refuses (Other Show) rows refusal = (failed : Bool) × IsShowRefusal rows failed
 refuses (Other Moves) rows refusal = (failed : Bool) × IsMovesRefusal (spelled (codes "FEN") rows) failed refusal
 refuses (Other Count) rows refusal =
     (failed : Bool) × OfPlies rows (λ plies. IsCountRefusal (spelled (codes "FEN") rows) plies failed refusal)
-refuses (Other Judge) rows refusal = IsOfFile refusal
+refuses (Other Judge) rows refusal = IsListRefused (spelled (codes "PROBLEMS") rows) refusal
 refuses Check rows refusal = IsRefusedWith IsUnchecked rows refusal
 refuses Search rows refusal = IsOfFile refusal
     ⊎ (IsOfProblem rows refusal ⊎ OfSpelled rows (λ d n. IsSearchRefusal d n refusal))

@@ -1,8 +1,12 @@
 -- What judging a line of a list of problems comes to, what it writes, and its status; and what a certificate that stands
 -- in a problem's place comes to.
-use Rattle.std.specs.Prelude.{◌≡◌, ◌⊎◌, ℕ, max, Bool, true, List, [], ◌∷◌, ◌++◌, Option}
+use Rattle.std.specs.Prelude.{◌≡◌, ◌⊎◌, ℕ, max, Bool, true, List, [], ◌∷◌, ◌++◌, Option, codes}
 use Rattle.clap.specs.Words.{Text}
 use Rattle.pg_certificate.specs.Pushing.{AddsSome}
+use Rattle.pg_position.specs.declared.moves.Move.{Move}
+use Rattle.pg_pgn.specs.Pgn.{IsFile}
+use Rattle.pg_pgn.specs.Problems.{AreProblems}
+use Rattle.pg_pgn.specs.declared.letters.Letters.TheVariants.{English}
 use Rattle.pg_san.specs.GameText.{lines}
 use Rattle.pg_judge.specs.Entries.{IsEntry, IsEntryFault, IsSkipped, IsUnmarked}
 use Rattle.pg_judge.specs.Rows.{IsRowOf}
@@ -91,6 +95,24 @@ abbrev pub IsTextJudged : List ℕ → ℕ → Type 0
 IsTextJudged text status =
     (rest : List ℕ) × IsUnmarked text rest × (rows : List ℕ) × AreJudged (lines rest) status rows
 
--- what a status of `pg judge` says: those of a text that the word PROBLEMS gives are
+-- ---- what a word gives
+-- the name of a file of games in PGN
+abbrev pub IsPgnName : Text → Type 0
+IsPgnName name = (front : List ℕ) × (name ≡ front ++ codes ".pgn")
+
+-- the bytes are games in PGN, in English letters, and the text is the list of problems that these are
+abbrev pub ArePgnProblems : List ℕ → List ℕ → Type 0
+ArePgnProblems given text = (games : List (List Move)) × IsFile English given games × AreProblems games text
+
+-- the bytes that a name gives are read as this list of problems: as the text that they are or, where the name is that of
+-- a file of games in PGN, as the problems that these are
+abbrev pub IsReadAs : Text → List ℕ → List ℕ → Type 0
+IsReadAs name given text = ((¬ IsPgnName name) × (text ≡ given)) ⊎ (IsPgnName name × ArePgnProblems given text)
+
+-- and some bytes that the name gives are
+abbrev pub GivesList : (Text → List ℕ → Type 0) → Text → List ℕ → Type 0
+GivesList Gives name text = (given : List ℕ) × Gives name given × IsReadAs name given text
+
+-- what a status of `pg judge` says: those of a list of problems that the word PROBLEMS gives are
 abbrev pub IsListJudged : (Text → List ℕ → Type 0) → Text → ℕ → Type 0
-IsListJudged Gives name status = (text : List ℕ) × Gives name text × IsTextJudged text status
+IsListJudged Gives name status = (text : List ℕ) × GivesList Gives name text × IsTextJudged text status

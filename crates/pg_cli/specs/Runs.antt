@@ -2,7 +2,7 @@
 -- has a status, as the sink below its buffer holds it before and after; and why it has none.
 use Rattle.std.specs.Prelude.{◌≡◌, ◌⊎◌, ℕ, ◌<◌, Bool, false, true, List, ◌++◌, Option, Some, Result, Ok, Err, IsUtf8, codes, length as length_of_list}
 use Rattle.std.specs.Fmt.{decimal}
-use Rattle.clap.specs.Words.{Row, first_of}
+use Rattle.clap.specs.Words.{Row, Text, first_of}
 use Rattle.pg_board.specs.Placement.{Placement}
 use Rattle.pg_position.specs.declared.moves.Move.{Move}
 use Rattle.pg_position.specs.declared.state.State.{State}
@@ -29,6 +29,8 @@ use Rattle.pg_texts.specs.Upgrade.{IsUpgradeFault, upgrade_of}
 use Rattle.pg_texts.specs.declared.fault.MovesFault.TheVariants.{Write as MovesWrite}
 use Rattle.pg_texts.specs.declared.fault.CountRunFault.TheVariants.{Write as CountWrite}
 use Rattle.pg_texts.specs.declared.fault.UpgradeFault.TheVariants.{Write as CopyWrite}
+use Rattle.pg_pgn.specs.Pgn.{IsFirstFault}
+use Rattle.pg_pgn.specs.declared.letters.Letters.TheVariants.{English}
 use Rattle.pg_report.specs.Answering.{IsUnreported}
 use Rattle.pg_report.specs.Run.{Failures, IsCheckFault, of_problem}
 use Rattle.pg_report.specs.Shortest.{IsLeastLength, NoneBelow}
@@ -49,12 +51,13 @@ use Rattle.pg_page.specs.Page.{IsPageFault}
 use Rattle.pg_page.specs.declared.fault.PageFault.{PageFault}
 use Rattle.pg_page.specs.declared.fault.PageFault.TheVariants as page
 use Rattle.pg_cli.specs.Answers.{OfGiven, OfSomeText}
+use Rattle.pg_cli.specs.Judging.{IsPgnName}
 use Rattle.pg_cli.specs.Knowing.{answer_status}
 use Rattle.pg_cli.specs.Refusals.{listing_refusal}
 use Rattle.pg_cli.specs.Words.{spelled, SpellsBoard}
 use Rattle.pg_cli.specs.declared.refusals.Reached.{Reached}
 use Rattle.pg_cli.specs.declared.refusals.Refusal.{Refusal}
-use Rattle.pg_cli.specs.declared.refusals.Refusal.TheVariants.{Open, NoGame, NotUtf8, Read, Write, Memory, Line as NoLine, Show, Moves, Count, Search, Full, Late, GaveUp, Upgrade, Check, Answer, Tariffs}
+use Rattle.pg_cli.specs.declared.refusals.Refusal.TheVariants.{Open, NoGame, NotUtf8, Read, Write, Memory, Line as NoLine, Show, Moves, Count, Search, Full, Late, GaveUp, Upgrade, Check, Answer, Tariffs, Pgn}
 
 -- ---- files and sinks
 -- a file is not opened, not read or not written, or memory was refused
@@ -64,6 +67,11 @@ IsOfFile Read = Unit {0}
 IsOfFile Write = Unit {0}
 IsOfFile Memory = Unit {0}
 IsOfFile refusal = ⊥
+
+-- so it is, or bytes that a name gives as games in PGN are refused by their first fault, as `pg judge` reads them
+abbrev pub IsListRefused : Text → Refusal → Type 0
+IsListRefused name (Pgn fault) = IsPgnName name × ((given : List ℕ) × IsFirstFault English given fault)
+IsListRefused name refusal = IsOfFile refusal
 
 -- so it is, or the bytes of a list of games are no text, or those before a certificate state no tariffs
 abbrev pub IsOfInput : Refusal → Type 0

@@ -1,5 +1,5 @@
-//! `pg pgn` and `pg end`: games in PGN as a list, and where the games of a list end.
-ghost use Rattle.std.specs.Prelude.{◌≡◌, ℕ, List, codes, IfOk, IfErr, OnOk};
+//! `pg pgn` and `pg end`: games in PGN as a list, and where the games of a list end; and games in PGN as problems.
+ghost use Rattle.std.specs.Prelude.{◌≡◌, ◌↔◌, ℕ, List, codes, IfOk, IfErr, IsTrue, OnOk};
 ghost use Rattle.clap.specs.Words.{first_of, found_of, rows_of};
 ghost use Rattle.pg_certificate.specs.Pushing.{AddsSome};
 ghost use Rattle.pg_position.specs.declared.moves.Move.{Move};
@@ -11,6 +11,8 @@ ghost use Rattle.pg_streams.specs.Buffer.{sink_of};
 ghost use Rattle.pg_texts.specs.Report.{AreGameLines};
 ghost use Rattle.pg_cli.specs.Answers.{IsGivenBy};
 ghost use Rattle.pg_cli.specs.Converting.{AreNamed, HasEnds, HasPgn, IsTyped};
+ghost use Rattle.pg_cli.specs.Judging.{ArePgnProblems, IsPgnName, IsReadAs};
+ghost use Rattle.pg_cli.specs.Runs.{IsListRefused};
 ghost use Rattle.pg_cli.specs.Words.{spelled};
 
 use crate::checking::finished;
@@ -18,7 +20,7 @@ use crate::refusals::{DONE, Named, Refusal};
 use crate::spelling::text_of;
 use clap::ArgMatches;
 use pg_files::{is_input, list};
-use pg_pgn::{Letters, letters_of, read_pgn, write_ends, write_list};
+use pg_pgn::{Letters, letters_of, read_pgn, write_ends, write_list, write_problems};
 use pg_report::{Refused, RunFault, Sink, ToWrite};
 use pg_san::read_games;
 use pg_streams::Gathered;
@@ -161,4 +163,46 @@ pub(crate) fn end<R: Runtime + AllocGlobal>(rt: &R, words: &ArgMatches<'_>) -> R
     };
     let mut out = Gathered::new(ToWrite::new(io::writer(rt)));
     ends_on(rt.alloc(), text.as_slice(), &mut out)
+}
+
+// Whether a name is that of a file of games in PGN.
+fn is_pgn(name: &str) -> bool
+    ensures { IsTrue result ↔ IsPgnName name.now }
+{
+    name.as_bytes().ends_with(b".pgn")
+}
+
+// The list of problems that games in PGN are, in English letters.
+//
+// # Errors
+// `Pgn` where the bytes are no games, and `Memory` where memory is refused.
+fn problems_from(alloc: Global, given: &[u8]) -> Result<Vec<u8>, Refusal>
+    ensures ok { IfOk result (λ text. ArePgnProblems given.now text.items) }
+    ensures err { (name : List ℕ) → IsPgnName name → IfErr result (IsListRefused name) }
+{
+    let games = match read_pgn(alloc, given, Letters::English) {
+        Ok(games) => games,
+        Err(fault) => return Err(Refusal::Pgn(fault)),
+    };
+    let mut out = ToWrite::new(Vec::new(alloc));
+    match write_problems(alloc, given, &games, &mut out) {
+        Ok(()) => Ok(out.into_inner()),
+        Err(_) => Err(Refusal::Memory),
+    }
+}
+
+// The list of problems that the bytes are which a name gives: the text that they are, or the problems that games in PGN
+// are where it is the name of a file of these.
+//
+// # Errors
+// Those of `problems_from`, for such a name.
+pub(crate) fn problems_as(alloc: Global, name: &str, given: Vec<u8>) -> Result<Vec<u8>, Refusal>
+    ensures ok { IfOk result (λ text. IsReadAs name.now given.items text.items) }
+    ensures err { IfErr result (IsListRefused name.now) }
+{
+    if is_pgn(name) {
+        problems_from(alloc, given.as_slice())
+    } else {
+        Ok(given)
+    }
 }

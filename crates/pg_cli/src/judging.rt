@@ -8,12 +8,13 @@ ghost use Rattle.pg_judge.specs.declared.entry.Entry.{Entry};
 ghost use Rattle.pg_san.specs.GameText.{lines};
 ghost use Rattle.pg_streams.specs.Buffer.{IsHandedOn};
 ghost use Rattle.pg_cli.specs.Answers.{IsGivenBy};
-ghost use Rattle.pg_cli.specs.Judging.{AreJudged, EndsRun, IsCutOff, IsFindingStatus, IsJudged, IsListJudged};
-ghost use Rattle.pg_cli.specs.Judging.{IsRowStatus, IsRuled, IsSpoiled, IsStanding, IsTextJudged};
-ghost use Rattle.pg_cli.specs.Runs.{IsOfFile};
+ghost use Rattle.pg_cli.specs.Judging.{AreJudged, EndsRun, GivesList, IsCutOff, IsFindingStatus, IsJudged};
+ghost use Rattle.pg_cli.specs.Judging.{IsListJudged, IsRowStatus, IsRuled, IsSpoiled, IsStanding, IsTextJudged};
+ghost use Rattle.pg_cli.specs.Runs.{IsListRefused, IsOfFile};
 ghost use Rattle.pg_cli.specs.Words.{spelled};
 
 use crate::bounds::{journeys_to, tolls_to, travel_to};
+use crate::converting::problems_as;
 use crate::keeping::{Loose, OnDisk};
 use crate::limits::{Reach, reach_of};
 use crate::problems::{AtPlace, FAILS, Tally, count_problems, say_bad};
@@ -691,14 +692,16 @@ fn judge_text<R: Runtime + AllocGlobal, W: Sink>(
     judge_all(rt, rest, orders, count, terminal, out)
 }
 
-// The bytes of the list of problems: of a file, or of standard input where its name is a hyphen.
+// The list of problems: the bytes of a file, or of standard input where its name is a hyphen; or the games in PGN of a
+// file with such a name.
 fn problems_of<R: Runtime + AllocGlobal>(rt: &R, words: &ArgMatches<'_>) -> Result<Vec<u8>, Refusal>
-    ensures ok { IfOk result (λ text. IsGivenBy R.File.remaining R.Reader.remaining
+    ensures ok { IfOk result (λ text. GivesList (IsGivenBy R.File.remaining R.Reader.remaining)
         (spelled (codes "PROBLEMS") (rows_of (found_of words.now))) text.items) }
-    ensures err { IfErr result IsOfFile }
+    ensures err { IfErr result (IsListRefused (spelled (codes "PROBLEMS") (rows_of (found_of words.now)))) }
 {
-    match list(rt, text_of(words, "PROBLEMS")) {
-        Ok(text) => Ok(text),
+    let name = text_of(words, "PROBLEMS");
+    match list(rt, name) {
+        Ok(given) => problems_as(rt.alloc(), name, given),
         Err(fault) => Err(Refusal::of_file(fault, Named::Problems)),
     }
 }
@@ -725,7 +728,7 @@ pub(crate) fn judge<R: Runtime + AllocGlobal>(
 ) -> Result<u8, Refusal>
     ensures ok { IfOk result (λ status. IsListJudged (IsGivenBy R.File.remaining R.Reader.remaining)
         (spelled (codes "PROBLEMS") (rows_of (found_of words.now))) status) }
-    ensures err { IfErr result IsOfFile }
+    ensures err { IfErr result (IsListRefused (spelled (codes "PROBLEMS") (rows_of (found_of words.now)))) }
 {
     let text = match problems_of(rt, words) {
         Ok(text) => text,

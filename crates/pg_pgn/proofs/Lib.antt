@@ -4,6 +4,7 @@ pub mod FaultLemmas
 pub mod LegalLemmas
 pub mod KnownLemmas
 mod EndLemmas
+mod ProblemLemmas
 pub mod WritingLemmas
 pub mod SanBytes
 pub mod RoundLemmas

@@ -5,5 +5,6 @@ pub mod Pgn
 pub mod Steps
 pub mod KnownReadings
 pub mod Ends
+pub mod Problems
 pub mod Languages
 pub mod Writing

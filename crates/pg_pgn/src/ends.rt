@@ -18,11 +18,11 @@ use pg_position::{Move, Position};
 use pg_san::Games;
 use pg_texts::{write_game, write_line};
 
-// The last position of a game, and how many plies before it were no move of a pawn and took nothing.
+/// The last position of a game, and how many plies before it were no move of a pawn and took nothing.
 #[derive(Clone, Copy)]
-struct End {
-    last: Position,
-    still: usize,
+pub(crate) struct End {
+    pub(crate) last: Position,
+    pub(crate) still: usize,
 }
 
 // Whether a pawn leaves the square that a move leaves.
@@ -50,8 +50,8 @@ fn still_after(position: &Position, m: &Move, still: usize) -> usize
     if resets(position, m) { 0 } else { still + 1 }
 }
 
-// Where a game from the initial array ends.
-fn end_of(game: &[Move]) -> End
+/// Where a game from the initial array ends.
+pub(crate) fn end_of(game: &[Move]) -> End
     requires { IsFromArray game.now }
     ensures { Plays array_state 0 game.now result.last result.still }
 {
@@ -86,9 +86,9 @@ fn half_of(plies: usize) -> &'static str
     if plies % 2 == 0 { ".0" } else { ".5" }
 }
 
-// The length of a game, as text.
+/// The length of a game, as text.
 #[tactic(auto, unfolding(pg_fen::specs::Lengths::length_text))]
-fn length_of(plies: usize) -> ArrayString<22>
+pub(crate) fn length_of(plies: usize) -> ArrayString<22>
     ensures { result.bytes ≡ length_text plies }
 {
     let mut text = ArrayString::new();

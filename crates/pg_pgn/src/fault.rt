@@ -90,3 +90,14 @@ impl Display for PgnFault {
 }
 
 impl std::error::Error for PgnFault {}
+
+/// Why no list of problems is written.
+#[derive(Debug, Clone, Copy, PartialEq, Eq, Error)]
+pub enum ProblemsFault {
+    /// Memory was refused.
+    #[error("out of memory")]
+    Memory,
+    /// The sink has failed.
+    #[error("write fault")]
+    Write,
+}

@@ -238,9 +238,9 @@ fn open_fault(kind: TokenKind) -> FormFault
     }
 }
 
-// The token at the front of a text that is not empty, and what stands behind it.
+/// The token at the front of a text that is not empty, and what stands behind it.
 #[tactic(auto, using(crate::proofs::TokenLemmas::is_open))]
-fn next_token(text: &[u8]) -> Result<(&[u8], &[u8]), FormFault>
+pub(crate) fn next_token(text: &[u8]) -> Result<(&[u8], &[u8]), FormFault>
     requires { 0 < length text.now }
     ensures ok { IfOk result (λ r. StartsWith text.now r.0.now r.1.now) }
     ensures less { IfOk result (λ r. length r.1.now < length text.now) }

@@ -45,8 +45,9 @@ fn tag_front(token: &[u8]) -> &[u8]
     }
 }
 
+/// The name of a tag pair.
 #[tactic(auto, unfolding(crate::specs::Tokens::tag_name))]
-fn tag_name(token: &[u8]) -> &[u8]
+pub(crate) fn tag_name(token: &[u8]) -> &[u8]
     ensures { result.now ≡ tag_name token.now }
 {
     let front = tag_front(token);
@@ -54,8 +55,9 @@ fn tag_name(token: &[u8]) -> &[u8]
     name
 }
 
+/// The value of a tag pair, and what stands behind it.
 #[tactic(auto, unfolding(crate::specs::Tokens::tag_value))]
-fn tag_value(token: &[u8]) -> &[u8]
+pub(crate) fn tag_value(token: &[u8]) -> &[u8]
     ensures { result.now ≡ tag_value token.now }
 {
     let front = tag_front(token);

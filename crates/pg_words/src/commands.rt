@@ -68,8 +68,9 @@ Example:
 
 const JUDGE_EXAMPLE: &str =
     "A line of PROBLEMS is a name, a diagram, a length and, if wanted, the author's
-game; `#` begins a comment. Each problem has a row, with tabs between its
-columns: name, length, verdict, what the author's game is, by what, the games.
+game; `#` begins a comment. Of a file NAME.pgn each game is a problem, named by
+its tag Event or White. Each problem has a row, with tabs between its columns:
+name, length, verdict, what the author's game is, by what, the games.
 With `--certificates` each proof goes to FOLDER/NAME.pgc, and one that stands
 there is checked in place of a search, so that a run can be gone on with. One of
 another problem stays, but with `--replace`; `--bytes` says how long one may be.

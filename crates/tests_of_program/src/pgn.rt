@@ -3,6 +3,7 @@
 use pg_certificate::ToWrite;
 use pg_pgn::{
     Letters, PgnFault, PgnGames, fitting, letters_of, name_of, read_pgn, write_pgn, write_pgn_and,
+    write_problems,
 };
 use pg_position::{Move, Position};
 use pg_san::{Games, San, read_games, write};
@@ -216,4 +217,46 @@ fn written_games_are_read(rt: HostRuntime) {
     for i in 0..games.len() {
         assert!(rt; read.game(i) == games.game(i), "{i}");
     }
+}
+
+// Games with tags and without.
+const TAGGED: &str = r#"[Event "A. B. \"C\""]
+[White "W"]
+
+1. e4 {[Event "X"]} (1. d4) e5 1-0
+
+[Event "?"]
+[White ".Nagy, é"]
+
+1. d4 *
+1. c4 1/2-1/2
+[Event "A. B. \"C\""]
+e4
+[Black "W"]
+d4 [Event ""]
+[White "a.b-c_d"]
+"#;
+
+// The list of problems that they are.
+const LISTED: &str = "A._B.__C_\trnbqkbnr/pppp1ppp/8/4p3/4P3/8/PPPP1PPP/RNBQKBNR\t1.0\t1. e4 e5
+_Nagy___\trnbqkbnr/pppppppp/8/8/3P4/8/PPP1PPPP/RNBQKBNR\t0.5\t1. d4
+game_3\trnbqkbnr/pppppppp/8/8/2P5/8/PP1PPPPP/RNBQKBNR\t0.5\t1. c4
+A._B.__C__4\trnbqkbnr/pppppppp/8/8/4P3/8/PPPP1PPP/RNBQKBNR\t0.5\t1. e4
+game_5\trnbqkbnr/pppppppp/8/8/3P4/8/PPP1PPPP/RNBQKBNR\t0.5\t1. d4
+a.b-c_d\trnbqkbnr/pppppppp/8/8/8/8/PPPPPPPP/RNBQKBNR\t0.0\t-
+";
+
+fn check_listed<R: Abort + AllocGlobal>(rt: &R, text: &str, wanted: &str) {
+    let Ok(games) = read_pgn(rt.alloc(), text.as_bytes(), Letters::English) else {
+        panic!(rt; "no games");
+    };
+    let mut out = ToWrite::new(Vec::new(rt.alloc()));
+    assert!(rt; write_problems(rt.alloc(), text.as_bytes(), &games, &mut out).is_ok());
+    let bytes = out.into_inner();
+    assert!(rt; bytes.as_slice() == wanted.as_bytes());
+}
+
+#[test]
+fn games_are_problems(rt: HostRuntime) {
+    check_listed(&rt, TAGGED, LISTED);
 }

@@ -1,0 +1,60 @@
+-- A list of problems grows by the line of one game more. Leads to the contract of write_problems.
+use Rattle.std.proofs.Common.{◌≡◌, ℕ, ◌+◌, ◌<◌, List, [], ◌∷◌, ◌++◌, Option, Some, length, get_or, take, refl, sym, ap, subst, append_assoc, append-nil, ◌∙◌}
+use Rattle.std.specs.Prelude.{slice_get}
+use Rattle.std.proofs.KnownBytes.{Appends-nil, Appends-trans}
+use Rattle.std.proofs.lemmas.List.{take_more}
+use Rattle.std.proofs.lemmas.Option.{get_or_from_slice_get}
+use Rattle.std.specs.Io.KnownBytes.{Appends}
+use Rattle.pg_certificate.specs.Pushing.{AddsSome}
+use Rattle.pg_position.specs.declared.moves.Move.{Move}
+use Rattle.pg_position.specs.declared.state.State.{State}
+use Rattle.pg_position.specs.Array.{array_state}
+use Rattle.pg_position.specs.Game.{IsGame}
+use Rattle.pg_fen.specs.Lengths.{length_text}
+use Rattle.pg_fen.specs.PlacementText.{placement_text}
+use Rattle.pg_texts.specs.Movetext.{IsMovetext}
+use Rattle.pg_texts.specs.Report.{AddsLine, line_text}
+use Rattle.pg_pgn.specs.Ends.{Plays}
+use Rattle.pg_pgn.specs.Problems.{AreProblems, IsName, IsProblem, field_text}
+
+problems_more : (games : List (List Move)) (g : List Move) (text one : List ℕ) → AreProblems games text → IsProblem g one → AreProblems (games ++ g ∷ []) (text ++ one)
+unfolding AreProblems
+problems_more [] g text one h is = (one, [], is, refl, ap (λ (l : List ℕ). l ++ one) h ∙ sym (append-nil one))
+problems_more (x ∷ xs) g text one (first, rest, said, more, e) is = (
+  first,
+  rest ++ one,
+  said,
+  problems_more xs g rest one more is,
+  ap (λ (l : List ℕ). l ++ one) e ∙ append_assoc first rest one,
+)
+
+pub no_problems : (games : List (List Move)) (held : Option (List ℕ)) → AddsSome (AreProblems (take 0 games)) held held
+unfolding AreProblems
+no_problems games held = ([], refl, Appends-nil held)
+
+pub one_problem_more : (games : List (List Move)) (n : ℕ) (g : List Move) (a b c : Option (List ℕ)) → n < length games → slice_get games n ≡ Some g → AddsSome (AreProblems (take n games)) a b → AddsSome (IsProblem g) b c → AddsSome (AreProblems (take (n + 1) games)) a c
+one_problem_more games n g a b c low at (text, are, grows) (one, is, more) =
+    let here : get_or games n g ≡ g = get_or_from_slice_get games n g g at in
+    let e : take (n + 1) games ≡ take n games ++ g ∷ [] = take_more games n g low ∙ ap (λ (x : List Move). take n games ++ x ∷ []) here in (
+      text ++ one,
+      subst (λ (x : List (List Move)). AreProblems x (text ++ one)) (sym e) (problems_more (take n games) g text one are is),
+      Appends-trans a b c text one grows more,
+    )
+
+played : (p : State) (n : ℕ) (game : List Move) (q : State) (still : ℕ) → Plays p n game q still → IsGame p game q
+unfolding Plays
+played p n [] q still h = h.0
+played p n (m ∷ ms) q still (r, k, legal, after, more) = (r, legal, played r k ms q still more)
+
+-- the three fields and the moves make the line
+pub problem_line : (game : List Move) (name x y : List ℕ) (last : State) (still : ℕ) (a b c d e : Option (List ℕ)) → IsName name → Plays array_state 0 game last still → x ≡ placement_text last.board → y ≡ length_text (length game) → Appends a b (field_text name) → Appends b c (field_text x)
+    → Appends c d (field_text y) → AddsLine (IsMovetext game) d e → AddsSome (IsProblem game) a e
+problem_line game name x y last still a b c d e is_name plays is_x is_y p q r (moves, is, s) =
+    let q2 : Appends b c (field_text (placement_text last.board)) = subst (λ (t : List ℕ). Appends b c (field_text t)) is_x q in
+    let r2 : Appends c d (field_text (length_text (length game))) = subst (λ (t : List ℕ). Appends c d (field_text t)) is_y r in
+    let below : Appends c e (field_text (length_text (length game)) ++ line_text moves) = Appends-trans c d e _ _ r2 s in
+    let two : Appends b e (field_text (placement_text last.board) ++ (field_text (length_text (length game)) ++ line_text moves)) = Appends-trans b c e _ _ q2 below in (
+      field_text name ++ (field_text (placement_text last.board) ++ (field_text (length_text (length game)) ++ line_text moves)),
+      record { name = name; moves = moves; last = last; is_name = is_name; is_movetext = is; is_game = played array_state 0 game last still plays; is = refl },
+      Appends-trans a b e (field_text name) _ p two,
+    )
