@@ -1,8 +1,10 @@
 -- What solving a problem tells, by what is told of an entry.
-use Rattle.std.proofs.Common.{◌≡◌, ℕ, Bool, List, subst, sym}
+use Rattle.std.proofs.Common.{◌≡◌, ℕ, Bool, List, [], refl, subst, sym}
+use Rattle.std.proofs.KnownBytes.{Appends-nil}
 use Rattle.std.specs.Prelude.{Option, Some, None, Result, IfOk}
 use Rattle.pg_board.specs.Placement.{Placement}
 use Rattle.pg_certificate.specs.Pushing.{AddsSome}
+use Rattle.pg_pgn.specs.Writing.{IsPgnText}
 use Rattle.pg_position.specs.declared.moves.Move.{Move}
 use Rattle.pg_cli.specs.Solving.{IsSolvedBeside, IsSolvedBoard, IsSolvedWith}
 use Rattle.pg_cli.specs.declared.refusals.Refusal.{Refusal}
@@ -26,3 +28,13 @@ of_some pgn d n result a b h =
 pub as_asked : (pgn : Bool) (d : Placement) (asked said : Option ℕ) (result : Result ℕ Refusal) (a b : Option (List ℕ)) → asked ≡ said
     → IfOk result (λ status. AddsSome (IsSolvedBoard pgn d said status) a b) → IfOk result (λ status. AddsSome (IsSolvedBoard pgn d asked status) a b)
 as_asked pgn d asked said result a b e h = subst (λ (o : Option ℕ). IfOk result (λ status. AddsSome (IsSolvedBoard pgn d o status) a b)) (sym e) h
+
+-- no games in PGN are no text
+pub no_games_sent : (a : Option (List ℕ)) → AddsSome (IsPgnText []) a a
+unfolding IsPgnText
+no_games_sent a = ([], refl, Appends-nil a)
+
+-- what is told as the words want it
+pub told_as : (pgn b : Bool) (d : Placement) (n : ℕ) (author : List (List Move)) (result : Result ℕ Refusal) (x y : Option (List ℕ)) → pgn ≡ b
+    → IfOk result (λ status. AddsSome (IsSolvedWith b d n author status) x y) → IfOk result (λ status. AddsSome (IsSolvedWith pgn d n author status) x y)
+told_as pgn b d n author result x y e h = subst (λ (p : Bool). IfOk result (λ status. AddsSome (IsSolvedWith p d n author status) x y)) (sym e) h

@@ -1,11 +1,13 @@
-use Rattle.std.proofs.Common.{Bool, subst, sym}
-use Rattle.std.specs.Prelude.{IfOk}
-use Rattle.pg_certificate.specs.Pushing.{AddsSome}
-use Rattle.pg_cli.specs.Solving.{IsSolvedWith}
-use Rattle.pg_cli.proofs.WrittenLemmas.{held_by}
+use Rattle.std.proofs.Common.{false, true}
+use Rattle.pg_cli.proofs.SolveLemmas.{told_as}
 use Rattle.pg_cli.proofs.solving.tell_finding.Goals as goal
 
-pub returns-if : goal.returns-if
-returns-if g c =
+pub returns-then-as_pgn : goal.returns-then-as_pgn
+returns-then-as_pgn g c =
     let e = c.args.entry.now in
-    subst (λ (b : Bool). IfOk c.send_finding.result (λ status. AddsSome (IsSolvedWith b e.problem.diagram e.problem.length e.games status) _ _)) (sym c.if-as_pgn.true) c.send_finding.ensures
+    told_as c.args.as_pgn true e.problem.diagram e.problem.length e.games c.send_finding.result _ _ c.if-as_pgn.true c.send_finding.ensures
+
+pub returns : goal.returns
+returns g c =
+    let e = c.args.entry.now in
+    told_as c.args.as_pgn false e.problem.diagram e.problem.length e.games c.report_finding.result _ _ c.if-as_pgn.false c.report_finding.ensures
