@@ -113,6 +113,7 @@ cd "$work/files" || exit 1
 echo UEdDMQAkUzZCEREREQAAAAAAAAAAAAAAAAAAAACZmZmZrNu+yg== | base64 -d >old.pgc
 cp "$top/examples/king-abroad/certificate.pgc" references.pgc
 echo '1. e4 e5' >games
+cp games games.pgn
 echo '1. d3 e6 2. e3' >order
 : >empty
 
@@ -182,6 +183,7 @@ refuse 40 2 'pg: line 1: bad name' judge bad
 may='ample unsettled'
 refuse 40 0 '' judge one
 refuse 40 0 '' judge author
+refuse 40 0 '' judge games.pgn
 refuse 40 1 '' judge one --nodes 3 --journeys
 refuse 40 0 '' judge one --certificates proofs
 refuse 40 0 '' judge one --certificates made/here

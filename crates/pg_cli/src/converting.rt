@@ -196,6 +196,7 @@ fn problems_from(alloc: Global, given: &[u8]) -> Result<Vec<u8>, Refusal>
 //
 // # Errors
 // Those of `problems_from`, for such a name.
+#[inline(never)]
 pub(crate) fn problems_as(alloc: Global, name: &str, given: Vec<u8>) -> Result<Vec<u8>, Refusal>
     ensures ok { IfOk result (λ text. IsReadAs name.now given.items text.items) }
     ensures err { IfErr result (IsListRefused name.now) }
