@@ -172,10 +172,13 @@ fn is_pgn(name: &str) -> bool
     name.as_bytes().ends_with(b".pgn")
 }
 
+// The most games of a file that are a list of problems: a longer list would not be read either.
+const MOST_PROBLEMS: usize = 262_144;
+
 // The list of problems that games in PGN are, in English letters.
 //
 // # Errors
-// `Pgn` where the bytes are no games, and `Memory` where memory is refused.
+// `Pgn` where the bytes are no games, `Read` where they are more than such a list has, and `Memory` where memory is refused.
 fn problems_from(alloc: Global, given: &[u8]) -> Result<Vec<u8>, Refusal>
     ensures ok { IfOk result (λ text. ArePgnProblems given.now text.items) }
     ensures err { (name : List ℕ) → IsPgnName name → IfErr result (IsListRefused name) }
@@ -184,6 +187,9 @@ fn problems_from(alloc: Global, given: &[u8]) -> Result<Vec<u8>, Refusal>
         Ok(games) => games,
         Err(fault) => return Err(Refusal::Pgn(fault)),
     };
+    if games.len() > MOST_PROBLEMS {
+        return Err(Refusal::Read);
+    }
     let mut out = ToWrite::new(Vec::new(alloc));
     match write_problems(alloc, given, &games, &mut out) {
         Ok(()) => Ok(out.into_inner()),
