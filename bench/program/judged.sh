@@ -1,5 +1,5 @@
 #!/usr/bin/env bash
-# What `pg judge --certificates FOLDER` leaves in FOLDER. Runs are ended by INT and by KILL at twenty moments, and two
+# What `pg judge --certificates FOLDER` leaves in FOLDER, with `--pgn` too. Runs are ended by INT and by KILL at twenty moments, and two
 # are at work at once: then each certificate that stands there is right, the drafts that are left are harmless, and the
 # next run goes on from there, with the rows of one that nothing disturbed. And what may stand in the way of a
 # certificate has the text and the status that are written here, and is left or replaced. Quiet where all is so; else
@@ -55,6 +55,16 @@ micros=$((${EPOCHREALTIME/./} - began))
   fail 'the problems are not settled' undisturbed error
 certificates_are_right calm 'an undisturbed run'
 goes_on calm 'an undisturbed run'
+
+# With `--pgn` the games that settle a problem stand beside its certificate, and a file of that name stays.
+cp -r calm sent && echo mine >sent/schweig.pgn
+"$pg" judge problems --certificates sent --pgn "${limits[@]}" 2>error >rows
+[ "$?$(cat error)" = "$undisturbed" ] || fail 'with --pgn the rows are others' error rows
+[ "$(cat sent/schweig.pgn)" = mine ] || fail 'with --pgn a file is written over' sent/schweig.pgn
+for name in "${names[@]}"; do
+  [ "$name" = schweig ] || diff <("$pg" answer "sent/$name.pgc" | sed -n '/^games /,${/^1/p;}') <("$pg" pgn "sent/$name.pgn") >difference ||
+    fail "$name.pgn has other games" difference
+done
 
 # Ends a run in the folder $2 by the signal $1 after $3 microseconds; its status. (A shell has INT ignored in what it
 # starts in the background.)
