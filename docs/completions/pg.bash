@@ -9,16 +9,16 @@ _pg() {
     return
   fi
   case ${COMP_WORDS[1]} in
-    solve) options="--game --games --keep --all --nodes --minutes --bytes --journeys --help -h" valued=" --game --games --keep --nodes --minutes --bytes " file_options=" --games --keep " ;;
+    solve) options="--game --games --keep --all --nodes --minutes --bytes --pgn --journeys --help -h" valued=" --game --games --keep --nodes --minutes --bytes " file_options=" --games --keep " ;;
     show) options="--help -h" ;;
     moves) options="--help -h" ;;
     count) options="--help -h" ;;
-    games) options="--help -h" file_places=" 3 " ;;
+    games) options="--pgn --help -h" file_places=" 3 " ;;
     cooks) options="--nodes --minutes --foreign --help -h" valued=" --nodes --minutes --foreign " file_places=" 3 " ;;
-    check) options="--records --journeys --tolls --help -h" valued=" --records " file_places=" 3 4 " ;;
-    answer) options="--records --journeys --help -h" valued=" --records " file_places=" 1 " ;;
+    check) options="--records --journeys --tolls --pgn --help -h" valued=" --records " file_places=" 3 4 " ;;
+    answer) options="--records --pgn --journeys --help -h" valued=" --records " file_places=" 1 " ;;
     search) options="--nodes --minutes --bytes --games --journeys --tolls --no-journeys --help -h" valued=" --nodes --minutes --bytes --games " file_options=" --games " file_places=" 3 " ;;
-    judge) options="--certificates --replace --nodes --minutes --bytes --journeys --help -h" valued=" --certificates --nodes --minutes --bytes " file_options=" --certificates " file_places=" 1 " ;;
+    judge) options="--certificates --replace --pgn --nodes --minutes --bytes --journeys --help -h" valued=" --certificates --nodes --minutes --bytes " file_options=" --certificates " file_places=" 1 " ;;
     why) options="--records --journeys --help -h" valued=" --records " file_places=" 1 " ;;
     page) options="--records --nodes --out --title --author --journeys --help -h" valued=" --records --nodes --out --title --author " file_options=" --out " file_places=" 1 " ;;
     upgrade) options="--records --help -h" valued=" --records " file_places=" 1 2 " ;;

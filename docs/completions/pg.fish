@@ -53,11 +53,13 @@ complete -c pg -n '__pg_is solve' -l all -d 'Goes on where two games are known, 
 complete -c pg -n '__pg_is solve' -l nodes -x -d 'The last limit of a search [default: 100000000]'
 complete -c pg -n '__pg_is solve' -l minutes -x -d 'Gives up after M minutes, as 5 or 0.5, or 90s or 2h'
 complete -c pg -n '__pg_is solve' -l bytes -x -d 'Gives up before CERT is longer [default: 4000000000]'
+complete -c pg -n '__pg_is solve' -l pgn -d 'Prints the games as PGN, in place of the report'
 complete -c pg -n '__pg_is solve' -l journeys -d 'Changes nothing: journeys are asked always'
 complete -c pg -n '__pg_is solve' -s h -l help -d 'Print help'
 complete -c pg -n '__pg_is show' -s h -l help -d 'Print help'
 complete -c pg -n '__pg_is moves' -s h -l help -d 'Print help'
 complete -c pg -n '__pg_is count' -s h -l help -d 'Print help'
+complete -c pg -n '__pg_is games' -l pgn -d 'Prints the games as PGN, in place of the report'
 complete -c pg -n '__pg_is games' -s h -l help -d 'Print help'
 complete -c pg -n '__pg_is_at games 3' -F
 complete -c pg -n '__pg_is cooks' -l nodes -x -d 'Gives up where more would be visited [default: 10000000]'
@@ -68,10 +70,12 @@ complete -c pg -n '__pg_is_at cooks 3 --nodes --minutes --foreign' -F
 complete -c pg -n '__pg_is check' -l records -x -d 'Refuses a certificate of more records [default: 100000000]'
 complete -c pg -n '__pg_is check' -l journeys -d 'Takes cuts by the bound by journeys too'
 complete -c pg -n '__pg_is check' -l tolls -d 'Takes cuts by journeys and by the tariffs of CERT too'
+complete -c pg -n '__pg_is check' -l pgn -d 'Prints the games as PGN, in place of the report'
 complete -c pg -n '__pg_is check' -s h -l help -d 'Print help'
 complete -c pg -n '__pg_is_at check 3 --records' -F
 complete -c pg -n '__pg_is_at check 4 --records' -F
 complete -c pg -n '__pg_is answer' -l records -x -d 'Refuses a certificate of more records [default: 100000000]'
+complete -c pg -n '__pg_is answer' -l pgn -d 'Prints the games as PGN, in place of the report'
 complete -c pg -n '__pg_is answer' -l journeys -d 'Changes nothing: journeys are asked always'
 complete -c pg -n '__pg_is answer' -s h -l help -d 'Print help'
 complete -c pg -n '__pg_is_at answer 1 --records' -F
@@ -86,6 +90,7 @@ complete -c pg -n '__pg_is search' -s h -l help -d 'Print help'
 complete -c pg -n '__pg_is_at search 3 --nodes --minutes --bytes --games' -F
 complete -c pg -n '__pg_is judge' -l certificates -r -F -d 'Keeps each certificate as FOLDER/NAME.pgc'
 complete -c pg -n '__pg_is judge' -l replace -d 'Replaces certificates of other problems too'
+complete -c pg -n '__pg_is judge' -l pgn -d 'Writes the games as NAME.pgn beside NAME.pgc'
 complete -c pg -n '__pg_is judge' -l nodes -x -d 'The last limit of a search [default: 100000000]'
 complete -c pg -n '__pg_is judge' -l minutes -x -d 'Gives up a problem after M, as 5, 90s or 2h'
 complete -c pg -n '__pg_is judge' -l bytes -x -d 'Most bytes of a certificate [default: 4000000000]'

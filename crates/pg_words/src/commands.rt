@@ -415,7 +415,7 @@ const AS_PGN: Word = Word {
 const PGN_KEPT: Word = Word {
     name: "pgn",
     kind: Kind::Flag,
-    help: "Writes the games as NAME.pgn beside each certificate too",
+    help: "Writes the games as NAME.pgn beside NAME.pgc",
 };
 
 // Tariffs, where a certificate is written.
