@@ -179,18 +179,25 @@ fn pgn_of<R: Abort + AllocGlobal>(rt: &R, movetexts: &[&str]) -> String {
     text
 }
 
-// The bytes that are written of the games of a list, and of another one behind them where there is one.
-fn pgn_written<R: Abort + AllocGlobal>(rt: &R, list: &str, another: Option<&str>) -> Vec<u8> {
+// The bytes that are written of the games of a list.
+fn pgn_written<R: Abort + AllocGlobal>(rt: &R, list: &str) -> Vec<u8> {
     let games = listed(rt, list);
     let mut out = ToWrite::new(Vec::new(rt.alloc()));
-    match another {
-        Some(another) => {
-            let last = listed(rt, another);
-            let game = last.game(0).expect(rt, "a game");
-            assert!(rt; write_pgn_and(&games, game, &mut out).is_ok());
-        }
-        None => assert!(rt; write_pgn(&games, &mut out).is_ok()),
-    }
+    assert!(rt; write_pgn(&games, &mut out).is_ok());
+    out.into_inner()
+}
+
+// The same with another game behind them, that of a text in PGN.
+fn written_with<R: Abort + AllocGlobal>(rt: &R, list: &str, another: &str) -> Vec<u8> {
+    let games = listed(rt, list);
+    let Ok(last) = read_pgn(rt.alloc(), another.as_bytes(), Letters::English) else {
+        panic!(rt; "no games");
+    };
+    let Some(game) = last.game(0) else {
+        panic!(rt; "no game");
+    };
+    let mut out = ToWrite::new(Vec::new(rt.alloc()));
+    assert!(rt; write_pgn_and(&games, game, &mut out).is_ok());
     out.into_inner()
 }
 
@@ -198,17 +205,17 @@ fn pgn_written<R: Abort + AllocGlobal>(rt: &R, list: &str, another: Option<&str>
 fn games_are_written(rt: HostRuntime) {
     let [short, long, third] = MOVETEXTS;
     let two = pgn_of(&rt, &[short, long]);
-    assert!(rt; pgn_written(&rt, GAMES, None).as_slice() == two.as_bytes());
+    assert!(rt; pgn_written(&rt, GAMES).as_slice() == two.as_bytes());
     let three = pgn_of(&rt, &[short, long, third]);
-    assert!(rt; pgn_written(&rt, GAMES, Some(THIRD)).as_slice() == three.as_bytes());
+    assert!(rt; written_with(&rt, GAMES, THIRD).as_slice() == three.as_bytes());
     let one = pgn_of(&rt, &[third]);
-    assert!(rt; pgn_written(&rt, THIRD, None).as_slice() == one.as_bytes());
+    assert!(rt; pgn_written(&rt, THIRD).as_slice() == one.as_bytes());
 }
 
 // That the text written of games is read as these games.
 #[test]
 fn written_games_are_read(rt: HostRuntime) {
-    let text = pgn_written(&rt, GAMES, None);
+    let text = pgn_written(&rt, GAMES);
     let games = listed(&rt, GAMES);
     let Ok(read) = read_pgn(rt.alloc(), text.as_slice(), Letters::English) else {
         panic!(rt; "no games");
