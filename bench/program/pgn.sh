@@ -1,8 +1,8 @@
 #!/usr/bin/env bash
-# What `pg pgn` reads and `pg end` prints, beside Debian's pgn-extract: 500 files, made by a fixed rule of the games of
+# What `pg pgn` reads and `pg games --pgn` writes, beside Debian's pgn-extract: 500 files, made by a fixed rule of the games of
 # bench/sound-problems, with tags, comments, variations, NAGs, marks, results, lines of 40 kB, CR LF, a byte order mark and up to a
 # thousand games; a fifth of them spoiled. Both are to read the same games of a file, or both to find it at fault. Where they differ on
-# purpose the file's kind is named below, with the reason, and pg is to do what stands there. Without pgn-extract nothing is tried, which is told in a
+# purpose the file's kind is named below, with the reason, and pg is to do what stands there. What is written of each of these games pgn-extract reads as that game. Without it nothing is tried, which is told in a
 # line `not tried: `. Quiet where all is so; else prints each difference, and ends with status 1. PG may name the program.
 PATH=$PATH:/usr/games
 command -v pgn-extract >/dev/null || { echo 'not tried: bench/program/pgn.sh, for want of pgn-extract'; exit 0; }
@@ -87,8 +87,8 @@ def spoiled(text):
     return kind, front + last.replace("1. ", "1. ) ", 1)
 
 
-def ran(words):
-    done = subprocess.run(words, capture_output=True, stdin=subprocess.DEVNULL)
+def ran(words, given=b""):
+    done = subprocess.run(words, capture_output=True, input=given)
     return done.returncode, done.stdout.decode(), done.stderr.decode(errors="replace")
 
 
@@ -127,6 +127,17 @@ for number in range(500):
         both += 1
     else:
         print(f"file {number}, {kind}: pg: {status} {said.strip()[:200]} {mine and mine[-1]!r}; pgn-extract: {theirs and theirs[-1]!r}", file=sys.stderr)
+        wrong = 1
+# What pg writes of each known game the peer reads as that game.
+for number, moves in enumerate(games):
+    line = ran([pg, "end", " ".join(moves)])[1].splitlines()
+    asked = [line[1].removeprefix("diagram "), line[2].removeprefix("length ")]
+    path = os.path.join(work, f"sent-{number}.pgn")
+    status, out, said = ran([pg, "games", *asked, "-", "--pgn"], " ".join(moves).encode())
+    with open(path, "w", encoding="utf-8") as file:
+        file.write(out)
+    if status != 0 or max(map(len, out.splitlines())) >= 80 or peer(path) != [line[0]] or ran([pg, "pgn", path])[1] != line[0] + "\n":
+        print(f"game {number} is written otherwise: {status} {said} {peer(path)!r}", file=sys.stderr)
         wrong = 1
 if both < 300 or faults < 20:
     print(f"only {both} files are read by both, and {faults} by neither", file=sys.stderr)
