@@ -26,7 +26,7 @@ const MOST_AFTER: u64 = 400;
 const GROWTH: u64 = 4;
 
 // How many nodes a step of a look is as dear as: with journeys and without.
-const NODES_BY_JOURNEYS: u64 = 8;
+const NODES_BY_JOURNEYS: u64 = 6;
 
 const NODES: u64 = 16;
 

@@ -21,11 +21,12 @@ pub(crate) struct Node<'a> {
     pub(crate) black: &'a Ground,
 }
 
-/// What a tariff came to at a node.
+/// What a tariff came to at a node: a colour has no plan, so it excludes the node; or both have one, and it does where
+/// the total is above 0.
 #[derive(Clone, Copy)]
 pub(crate) enum Outcome {
-    Excluded,
-    Open(Gradient),
+    NoPlan,
+    Planned(Gradient),
 }
 
 // The cheapest plan of a colour, whose ground this is. Tables are made for what it owes here.
@@ -58,23 +59,20 @@ fn captures_beyond(plan: &Plan, other: &Plan) -> [i64; 64] {
 }
 
 // What the cheapest plans of both colours come to.
-fn outcome_of(node: &Node<'_>, tariff: &Tariff, white: &Plan, black: &Plan) -> Outcome {
+fn gradient_of(node: &Node<'_>, tariff: &Tariff, white: &Plan, black: &Plan) -> Gradient {
     let side = node.position.side();
     let ours = plies_left(side, Color::White, node.left);
     let theirs = plies_left(side, Color::Black, node.left);
     let charged = white.charged.saturating_add(black.charged);
     let total = charged.saturating_sub(i64::from(paid(tariff, side, node.left)));
-    if total > 0 {
-        return Outcome::Excluded;
-    }
-    Outcome::Open(Gradient {
+    Gradient {
         total,
         weights: [steps_beyond(white, ours), steps_beyond(black, theirs)],
         tolls: [captures_beyond(white, black), captures_beyond(black, white)],
-    })
+    }
 }
 
-/// Whether a tariff excludes a node, and else the gradient there.
+/// What a tariff comes to at a node, with the gradient there.
 ///
 /// # Errors
 /// Where memory is refused.
@@ -83,10 +81,10 @@ pub(crate) fn probe(alloc: Global, node: &Node<'_>, tariff: &Tariff) -> Result<O
     requires black { IsGround node.now.black.now }
 {
     let Some(white) = plan_of(alloc, node, tariff, node.white)? else {
-        return Ok(Outcome::Excluded);
+        return Ok(Outcome::NoPlan);
     };
     let Some(black) = plan_of(alloc, node, tariff, node.black)? else {
-        return Ok(Outcome::Excluded);
+        return Ok(Outcome::NoPlan);
     };
-    Ok(outcome_of(node, tariff, &white, &black))
+    Ok(Outcome::Planned(gradient_of(node, tariff, &white, &black)))
 }
