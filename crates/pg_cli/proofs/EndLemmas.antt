@@ -96,9 +96,9 @@ pub other_says : (Names : Text → Placement → ℕ → Type 0) (Gives : Text �
 other_says Names Gives command of rows status e h = subst (λ (c : Command). says Names Gives c rows status) (sym e) h
 
 -- so it is of the command that it is
-pub refused_as : (command known : Command) (rows : List Row) (refusal : Refusal) → command ≡ known → refuses known rows refusal
-    → IsUnready refusal ⊎ refuses command rows refusal
-refused_as command known rows refusal e h = inr (subst (λ (c : Command). refuses c rows refusal) (sym e) h)
+pub refused_as : (Gives : Text → List ℕ → Type 0) (command known : Command) (rows : List Row) (refusal : Refusal) → command ≡ known → refuses Gives known rows refusal
+    → IsUnready refusal ⊎ refuses Gives command rows refusal
+refused_as Gives command known rows refusal e h = inr (subst (λ (c : Command). refuses Gives c rows refusal) (sym e) h)
 
 -- and so does a refusal
 pub words_refused : (Is : Placement → ℕ → Refusal → Type 0) (rows : List Row) (given : Result Problem ProblemFault) (refusal : Refusal)
@@ -107,30 +107,30 @@ words_refused Is rows given refusal w (inl h) = inl h
 words_refused Is rows given refusal w (inr (inl h)) = inr (inl (none_of_words rows given refusal w h))
 words_refused Is rows given refusal w (inr (inr h)) = inr (inr (of_words rows given (λ d n. Is d n refusal) w h))
 
-search_refused : (rows : List Row) (given : Result Problem ProblemFault) (refusal : Refusal) → IsOfWords rows given
-    → IsSearchRefused given refusal → refuses Search rows refusal
-search_refused rows given refusal w (inl h) = inl h
-search_refused rows given refusal w (inr (inl h)) = inr (inl (none_of_words rows given refusal w h))
-search_refused rows given refusal w (inr (inr h)) = inr (inr (of_words rows given (λ d n. IsSearchRefusal d n refusal) w h))
+search_refused : (Gives : Text → List ℕ → Type 0) (rows : List Row) (given : Result Problem ProblemFault) (refusal : Refusal) → IsOfWords rows given
+    → IsSearchRefused given refusal → refuses Gives Search rows refusal
+search_refused Gives rows given refusal w (inl h) = inl h
+search_refused Gives rows given refusal w (inr (inl h)) = inr (inl (none_of_words rows given refusal w h))
+search_refused Gives rows given refusal w (inr (inr h)) = inr (inr (of_words rows given (λ d n. IsSearchRefusal d n refusal) w h))
 
 -- of a refusal of a command on a list nothing is said
-list_unsaid : (command : Command) (of : ProblemCommand) (rows : List Row) (refusal : Refusal) → command ≡ OfProblem of
-    → refuses command rows refusal
-list_unsaid command of rows refusal e = subst (λ (c : Command). refuses c rows refusal) (sym e) tt
+list_unsaid : (Gives : Text → List ℕ → Type 0) (command : Command) (of : ProblemCommand) (rows : List Row) (refusal : Refusal) → command ≡ OfProblem of
+    → refuses Gives command rows refusal
+list_unsaid Gives command of rows refusal e = subst (λ (c : Command). refuses Gives c rows refusal) (sym e) tt
 
 -- of a refusal of a command on a certificate nothing is said
-pub certificate_unsaid : (command : Command) (of : CertificateCommand) (rows : List Row) (refusal : Refusal) → command ≡ OfCertificate of
-    → refuses command rows refusal
-certificate_unsaid command of rows refusal e = subst (λ (c : Command). refuses c rows refusal) (sym e) tt
+pub certificate_unsaid : (Gives : Text → List ℕ → Type 0) (command : Command) (of : CertificateCommand) (rows : List Row) (refusal : Refusal) → command ≡ OfCertificate of
+    → refuses Gives command rows refusal
+certificate_unsaid Gives command of rows refusal e = subst (λ (c : Command). refuses Gives c rows refusal) (sym e) tt
 
 -- what is so of what is asked, is so of what that is
 pub said_as : {F : Type 0} (Gives : Text → List ℕ → Type 0) (rows : List Row) (a b : Asked F) (status : ℕ) → a ≡ b
     → says_as_asked Gives rows b status → says_as_asked Gives rows a status
 said_as {F} Gives rows a b status e h = subst (λ (x : Asked F). says_as_asked Gives rows x status) (sym e) h
 
-pub unsaid_as : {F : Type 0} (rows : List Row) (a b : Asked F) (refusal : Refusal) → a ≡ b → refuses_as_asked rows b refusal
-    → IsUnready refusal ⊎ refuses_as_asked rows a refusal
-unsaid_as {F} rows a b refusal e h = inr (subst (λ (x : Asked F). refuses_as_asked rows x refusal) (sym e) h)
+pub unsaid_as : {F : Type 0} (Gives : Text → List ℕ → Type 0) (rows : List Row) (a b : Asked F) (refusal : Refusal) → a ≡ b → refuses_as_asked Gives rows b refusal
+    → IsUnready refusal ⊎ refuses_as_asked Gives rows a refusal
+unsaid_as {F} Gives rows a b refusal e h = inr (subst (λ (x : Asked F). refuses_as_asked Gives rows x refusal) (sym e) h)
 
 -- what a status or a refusal says of what is asked, it says of the command
 pub asked_says : {F : Type 0} (Names : Text → Placement → ℕ → Type 0) (Gives : Text → List ℕ → Type 0) (command : Command)
@@ -145,17 +145,17 @@ asked_says Names Gives command rows (asked.File of certificate) status is h =
     certificate_says Names Gives command of rows certificate.value.opened.diagram certificate.value.opened.plies status is.0 is.1 h
 asked_says Names Gives command rows (asked.Other of) status is h = other_says Names Gives command of rows status is h
 
-pub asked_refused : {F : Type 0} (Names : Text → Placement → ℕ → Type 0) (command : Command) (rows : List Row) (a : Asked F)
-    (refusal : Refusal) → IsAskedBy Names command rows a → IsUnready refusal ⊎ refuses_as_asked rows a refusal
-    → IsUnready refusal ⊎ refuses command rows refusal
-asked_refused Names command rows a refusal is (inl h) = inl h
-asked_refused Names command rows (asked.Words of given) refusal is (inr h) = inr (list_unsaid command of rows refusal is.0)
-asked_refused Names command rows (asked.Check given carrying) refusal is (inr h) =
-    refused_as command Check rows refusal is.0 (words_refused IsUnchecked rows given refusal is.1 h)
-asked_refused Names command rows (asked.Search given) refusal is (inr h) =
-    refused_as command Search rows refusal is.0 (search_refused rows given refusal is.1 h)
-asked_refused Names command rows (asked.File of certificate) refusal is (inr h) = inr (certificate_unsaid command of rows refusal is.0)
-asked_refused Names command rows (asked.Other of) refusal is (inr h) = refused_as command (Other of) rows refusal is h
+pub asked_refused : {F : Type 0} (Names : Text → Placement → ℕ → Type 0) (Gives : Text → List ℕ → Type 0) (command : Command) (rows : List Row) (a : Asked F)
+    (refusal : Refusal) → IsAskedBy Names command rows a → IsUnready refusal ⊎ refuses_as_asked Gives rows a refusal
+    → IsUnready refusal ⊎ refuses Gives command rows refusal
+asked_refused Names Gives command rows a refusal is (inl h) = inl h
+asked_refused Names Gives command rows (asked.Words of given) refusal is (inr h) = inr (list_unsaid Gives command of rows refusal is.0)
+asked_refused Names Gives command rows (asked.Check given carrying) refusal is (inr h) =
+    refused_as Gives command Check rows refusal is.0 (words_refused IsUnchecked rows given refusal is.1 h)
+asked_refused Names Gives command rows (asked.Search given) refusal is (inr h) =
+    refused_as Gives command Search rows refusal is.0 (search_refused Gives rows given refusal is.1 h)
+asked_refused Names Gives command rows (asked.File of certificate) refusal is (inr h) = inr (certificate_unsaid Gives command of rows refusal is.0)
+asked_refused Names Gives command rows (asked.Other of) refusal is (inr h) = refused_as Gives command (Other of) rows refusal is h
 
 -- memory was refused before the command was done
 pub unready : {P : Type 0} (refusal : Refusal) → refusal ≡ Memory → IsUnready refusal ⊎ P

@@ -7,6 +7,9 @@ use Rattle.std.proofs.lemmas.Bool.Decides.{Decides-eqb}
 use Rattle.std.proofs.lemmas.Slice.Eq.{ends_is}
 use Rattle.clap.specs.Words.{Text}
 use Rattle.pg_cli.specs.Judging.{GivesList, IsPgnName, IsReadAs}
+use Rattle.pg_cli.specs.Runs.{IsListRefused, IsReadFault}
+use Rattle.pg_cli.specs.declared.refusals.Refusal.{Refusal}
+use Rattle.pg_cli.specs.declared.refusals.Refusal.TheVariants.{Pgn}
 
 -- whether bytes end in `.pgn` says whether the name is that of a file of games in PGN
 pub pgn_name : (name bytes : List ℕ) (r : Bool) → bytes ≡ name → r ≡ ends_with eqb bytes (codes ".pgn") → IsTrue r ↔ IsPgnName name
@@ -20,3 +23,11 @@ pub gives_list : {A E : Type 0} (r : Result A E) (items : A → List ℕ) (Gives
 gives_list (Ok t) items Gives name word given e h read =
     (given, subst (λ (n : List ℕ). Gives n given) e h, subst (λ (n : List ℕ). IsReadAs n given (items t)) e read)
 gives_list (Err x) items Gives name word given e h read = tt
+
+-- and what is wrong with them, is wrong with what the word gives
+pub refused_there : {A : Type 0} (r : Result A Refusal) (Gives : Text → List ℕ → Type 0) (name word given : List ℕ) → name ≡ word → Gives name given
+    → IfErr r (IsReadFault name given) → IfErr r (IsListRefused Gives word)
+refused_there (Ok t) Gives name word given e h wrong = tt
+refused_there (Err (Pgn fault)) Gives name word given e h wrong =
+    (given, subst (λ (n : List ℕ). Gives n given) e h, subst (λ (n : List ℕ). IsReadFault n given (Pgn fault)) e wrong)
+refused_there (Err refusal) Gives name word given e h wrong = wrong

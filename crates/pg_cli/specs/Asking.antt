@@ -51,12 +51,12 @@ says_as_asked Gives rows (asked.File of certificate) status =
 says_as_asked Gives rows (asked.Other of) status = says_of_words Gives of rows status
 
 -- what a refusal says of it
-abbrev pub refuses_as_asked : {F : Type 0} → List Row → Asked F → Refusal → Type 0
-refuses_as_asked rows (asked.Words of given) refusal = Unit {0}
-refuses_as_asked rows (asked.Check given carrying) refusal = IsRefusedFor IsUnchecked given refusal
-refuses_as_asked rows (asked.Search given) refusal = IsSearchRefused given refusal
-refuses_as_asked rows (asked.File of certificate) refusal = Unit {0}
-refuses_as_asked rows (asked.Other of) refusal = refuses (Other of) rows refusal
+abbrev pub refuses_as_asked : {F : Type 0} → (Text → List ℕ → Type 0) → List Row → Asked F → Refusal → Type 0
+refuses_as_asked Gives rows (asked.Words of given) refusal = Unit {0}
+refuses_as_asked Gives rows (asked.Check given carrying) refusal = IsRefusedFor IsUnchecked given refusal
+refuses_as_asked Gives rows (asked.Search given) refusal = IsSearchRefused given refusal
+refuses_as_asked Gives rows (asked.File of certificate) refusal = Unit {0}
+refuses_as_asked Gives rows (asked.Other of) refusal = refuses Gives (Other of) rows refusal
 
 -- what is asked is gone about by the bound by journeys too: a diagram that is shown and a certificate always; a check where
 -- the words say so of journeys or of tolls; and a search too, but where they say of tolls that journeys are left out

@@ -35,24 +35,24 @@ abbrev pub IsSearchRefused : Result Problem ProblemFault → Refusal → Type 0
 IsSearchRefused given refusal =
     IsOfFile refusal ⊎ (IsOfGiven given refusal ⊎ OfGiven given (λ d n. IsSearchRefusal d n refusal))
 
--- what a refusal says of a command with these words. Of those that are not here it says nothing: why they have no status
+-- what a refusal says of a command with these words, where `Gives` is which bytes the list of a name has. Of those that are not here it says nothing: why they have no status
 -- hangs on what files hold.
-abbrev pub refuses : Command → List Row → Refusal → Type 0
-refuses (Other Show) rows refusal = (failed : Bool) × IsShowRefusal rows failed refusal
-refuses (Other Moves) rows refusal = (failed : Bool) × IsMovesRefusal (spelled (codes "FEN") rows) failed refusal
-refuses (Other Count) rows refusal =
+abbrev pub refuses : (Text → List ℕ → Type 0) → Command → List Row → Refusal → Type 0
+refuses Gives (Other Show) rows refusal = (failed : Bool) × IsShowRefusal rows failed refusal
+refuses Gives (Other Moves) rows refusal = (failed : Bool) × IsMovesRefusal (spelled (codes "FEN") rows) failed refusal
+refuses Gives (Other Count) rows refusal =
     (failed : Bool) × OfPlies rows (λ plies. IsCountRefusal (spelled (codes "FEN") rows) plies failed refusal)
-refuses (Other Judge) rows refusal = IsListRefused (spelled (codes "PROBLEMS") rows) refusal
-refuses Check rows refusal = IsRefusedWith IsUnchecked rows refusal
-refuses Search rows refusal = IsOfFile refusal
+refuses Gives (Other Judge) rows refusal = IsListRefused Gives (spelled (codes "PROBLEMS") rows) refusal
+refuses Gives Check rows refusal = IsRefusedWith IsUnchecked rows refusal
+refuses Gives Search rows refusal = IsOfFile refusal
     ⊎ (IsOfProblem rows refusal ⊎ OfSpelled rows (λ d n. IsSearchRefusal d n refusal))
-refuses command rows refusal = Unit {0}
+refuses Gives command rows refusal = Unit {0}
 
 -- what a refusal says of the command that the words name
-abbrev pub IsRefusal : ArgMatches → Refusal → Type 0
-IsRefusal words refusal = OfCommand words (λ command rows. IsUnready refusal ⊎ refuses command rows refusal)
+abbrev pub IsRefusal : (Text → List ℕ → Type 0) → ArgMatches → Refusal → Type 0
+IsRefusal Gives words refusal = OfCommand words (λ command rows. IsUnready refusal ⊎ refuses Gives command rows refusal)
 
 -- the command that the words name ends with this status: its own, or that of a refusal
 abbrev pub IsEnd : (Text → Placement → ℕ → Type 0) → (Text → List ℕ → Type 0) → ArgMatches → ℕ → Type 0
 IsEnd Names Gives words status = IsStatus Names Gives words status
-    ⊎ ((refusal : Refusal) × IsRefusal words refusal × (status ≡ refusal_status refusal))
+    ⊎ ((refusal : Refusal) × IsRefusal Gives words refusal × (status ≡ refusal_status refusal))

@@ -68,10 +68,15 @@ IsOfFile Write = Unit {0}
 IsOfFile Memory = Unit {0}
 IsOfFile refusal = ⊥
 
--- so it is, or bytes that a name gives as games in PGN are refused by their first fault, as `pg judge` reads them
-abbrev pub IsListRefused : Text → Refusal → Type 0
-IsListRefused name (Pgn fault) = IsPgnName name × ((given : List ℕ) × IsFirstFault English given fault)
-IsListRefused name refusal = IsOfFile refusal
+-- so it is, or the name is that of a file of games in PGN, and its bytes are refused by their first fault
+abbrev pub IsReadFault : Text → List ℕ → Refusal → Type 0
+IsReadFault name given (Pgn fault) = IsPgnName name × IsFirstFault English given fault
+IsReadFault name given refusal = IsOfFile refusal
+
+-- so it is of bytes that the name gives, as `pg judge` reads them
+abbrev pub IsListRefused : (Text → List ℕ → Type 0) → Text → Refusal → Type 0
+IsListRefused Gives name (Pgn fault) = (given : List ℕ) × Gives name given × IsReadFault name given (Pgn fault)
+IsListRefused Gives name refusal = IsOfFile refusal
 
 -- so it is, or the bytes of a list of games are no text, or those before a certificate state no tariffs
 abbrev pub IsOfInput : Refusal → Type 0

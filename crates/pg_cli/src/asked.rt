@@ -8,7 +8,7 @@ ghost use Rattle.pg_checker.specs.declared.fault.OpenFault.{OpenFault};
 ghost use Rattle.pg_report.specs.Answering.{of_opening};
 ghost use Rattle.pg_tariff_files.specs.Files.{IsBegun, IsUnread};
 ghost use Rattle.pg_tariff_files.specs.declared.fault.CarriedFault.{CarriedFault};
-ghost use Rattle.pg_cli.specs.Answers.{IsNamedBy};
+ghost use Rattle.pg_cli.specs.Answers.{IsGivenBy, IsNamedBy};
 ghost use Rattle.pg_cli.specs.Asking.{IsAskedBy, IsOpenedBy};
 ghost use Rattle.pg_cli.specs.Ending.{refuses};
 ghost use Rattle.pg_cli.specs.Runs.{IsOfInput};
@@ -218,7 +218,8 @@ pub(crate) fn asked_by<R: Runtime + AllocGlobal>(
 ) -> Result<Asked<Either<R::File, R::Reader>>, Refusal>
     ensures ok { IfOk result (IsAskedBy (IsNamedBy R.File.remaining R.Reader.remaining)
         command (rows_of (found_of words.now))) }
-    ensures err { IfErr result (λ refusal. refuses command (rows_of (found_of words.now)) refusal) }
+    ensures err { IfErr result (λ refusal. refuses (IsGivenBy R.File.remaining R.Reader.remaining)
+        command (rows_of (found_of words.now)) refusal) }
 {
     match command {
         Command::OfProblem(command) => Ok(Asked::Words(command, problem_in(words))),

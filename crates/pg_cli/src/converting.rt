@@ -12,7 +12,7 @@ ghost use Rattle.pg_texts.specs.Report.{AreGameLines};
 ghost use Rattle.pg_cli.specs.Answers.{IsGivenBy};
 ghost use Rattle.pg_cli.specs.Converting.{AreNamed, HasEnds, HasPgn, IsTyped};
 ghost use Rattle.pg_cli.specs.Judging.{ArePgnProblems, IsPgnName, IsReadAs};
-ghost use Rattle.pg_cli.specs.Runs.{IsListRefused};
+ghost use Rattle.pg_cli.specs.Runs.{IsReadFault};
 ghost use Rattle.pg_cli.specs.Words.{spelled};
 
 use crate::checking::finished;
@@ -181,7 +181,7 @@ const MOST_PROBLEMS: usize = 262_144;
 // `Pgn` where the bytes are no games, `Read` where they are more than such a list has, and `Memory` where memory is refused.
 fn problems_from(alloc: Global, given: &[u8]) -> Result<Vec<u8>, Refusal>
     ensures ok { IfOk result (λ text. ArePgnProblems given.now text.items) }
-    ensures err { (name : List ℕ) → IsPgnName name → IfErr result (IsListRefused name) }
+    ensures err { (name : List ℕ) → IsPgnName name → IfErr result (IsReadFault name given.now) }
 {
     let games = match read_pgn(alloc, given, Letters::English) {
         Ok(games) => games,
@@ -205,7 +205,7 @@ fn problems_from(alloc: Global, given: &[u8]) -> Result<Vec<u8>, Refusal>
 #[inline(never)]
 pub(crate) fn problems_as(alloc: Global, name: &str, given: Vec<u8>) -> Result<Vec<u8>, Refusal>
     ensures ok { IfOk result (λ text. IsReadAs name.now given.items text.items) }
-    ensures err { IfErr result (IsListRefused name.now) }
+    ensures err { IfErr result (IsReadFault name.now given.items) }
 {
     if is_pgn(name) {
         problems_from(alloc, given.as_slice())

@@ -697,7 +697,8 @@ fn judge_text<R: Runtime + AllocGlobal, W: Sink>(
 fn problems_of<R: Runtime + AllocGlobal>(rt: &R, words: &ArgMatches<'_>) -> Result<Vec<u8>, Refusal>
     ensures ok { IfOk result (λ text. GivesList (IsGivenBy R.File.remaining R.Reader.remaining)
         (spelled (codes "PROBLEMS") (rows_of (found_of words.now))) text.items) }
-    ensures err { IfErr result (IsListRefused (spelled (codes "PROBLEMS") (rows_of (found_of words.now)))) }
+    ensures err { IfErr result (IsListRefused (IsGivenBy R.File.remaining R.Reader.remaining)
+        (spelled (codes "PROBLEMS") (rows_of (found_of words.now)))) }
 {
     let name = text_of(words, "PROBLEMS");
     match list(rt, name) {
@@ -728,7 +729,8 @@ pub(crate) fn judge<R: Runtime + AllocGlobal>(
 ) -> Result<u8, Refusal>
     ensures ok { IfOk result (λ status. IsListJudged (IsGivenBy R.File.remaining R.Reader.remaining)
         (spelled (codes "PROBLEMS") (rows_of (found_of words.now))) status) }
-    ensures err { IfErr result (IsListRefused (spelled (codes "PROBLEMS") (rows_of (found_of words.now)))) }
+    ensures err { IfErr result (IsListRefused (IsGivenBy R.File.remaining R.Reader.remaining)
+        (spelled (codes "PROBLEMS") (rows_of (found_of words.now)))) }
 {
     let text = match problems_of(rt, words) {
         Ok(text) => text,

@@ -150,7 +150,8 @@ fn other<R: Runtime + AllocGlobal>(
 ) -> Result<u8, Refusal>
     ensures ok { IfOk result (λ status. says_of_words (IsGivenBy R.File.remaining R.Reader.remaining)
         command (rows_of (found_of words.now)) status) }
-    ensures err { IfErr result (λ refusal. refuses (Command.Other command) (rows_of (found_of words.now)) refusal) }
+    ensures err { IfErr result (λ refusal. refuses (IsGivenBy R.File.remaining R.Reader.remaining)
+        (Command.Other command) (rows_of (found_of words.now)) refusal) }
 {
     match command {
         OtherCommand::Show => positions::show(rt, words, bounds),
@@ -178,7 +179,8 @@ fn tariffs_for<R: Runtime + AllocGlobal, F>(
     screen: Screen,
 ) -> Result<Vec<u8>, Refusal>
     ensures { IfErr result (λ refusal. IsUnready refusal
-        ⊎ refuses_as_asked (rows_of (found_of words.now)) asked.now refusal) }
+        ⊎ refuses_as_asked (IsGivenBy R.File.remaining R.Reader.remaining)
+            (rows_of (found_of words.now)) asked.now refusal) }
 {
     match asked {
         Asked::Check(_, carrying) => Ok(Vec::from_slice(rt.alloc(), carrying.stated.as_slice())?),
@@ -204,7 +206,8 @@ fn serve<R: Runtime + AllocGlobal, F: Read + Drop>(
     ensures ok { IfOk result (λ status. says_as_asked (IsGivenBy R.File.remaining R.Reader.remaining)
         (rows_of (found_of words.now)) asked status) }
     ensures err { IfErr result (λ refusal. IsUnready refusal
-        ⊎ refuses_as_asked (rows_of (found_of words.now)) asked refusal) }
+        ⊎ refuses_as_asked (IsGivenBy R.File.remaining R.Reader.remaining)
+            (rows_of (found_of words.now)) asked refusal) }
 {
     match asked {
         Asked::Words(command, problem) => on_list(rt, command, words, problem, screen),
@@ -233,7 +236,8 @@ fn lend<R: Runtime + AllocGlobal, F: Read + Drop>(
     ensures ok { IfOk result (λ status. says_as_asked (IsGivenBy R.File.remaining R.Reader.remaining)
         (rows_of (found_of words.now)) asked status) }
     ensures err { IfErr result (λ refusal. IsUnready refusal
-        ⊎ refuses_as_asked (rows_of (found_of words.now)) asked refusal) }
+        ⊎ refuses_as_asked (IsGivenBy R.File.remaining R.Reader.remaining)
+            (rows_of (found_of words.now)) asked refusal) }
 {
     let captures = Box::new(rt.alloc(), Captures)?;
     let promotions = Box::new(rt.alloc(), Promotions)?;
@@ -295,7 +299,8 @@ fn perform<R: Runtime + AllocGlobal>(
     ensures ok { IfOk result (λ status. says (IsNamedBy R.File.remaining R.Reader.remaining)
         (IsGivenBy R.File.remaining R.Reader.remaining) command (rows_of (found_of words.now)) status) }
     ensures err { IfErr result (λ refusal. IsUnready refusal
-        ⊎ refuses command (rows_of (found_of words.now)) refusal) }
+        ⊎ refuses (IsGivenBy R.File.remaining R.Reader.remaining)
+            command (rows_of (found_of words.now)) refusal) }
 {
     match ready(words) {
         Ok(()) => {}

@@ -5,6 +5,7 @@ ghost use Rattle.clap.specs.Words.{found_of, rows_of};
 ghost use Rattle.pg_position.specs.Array.{array_state};
 ghost use Rattle.pg_streams.specs.Buffer.{sink_of};
 ghost use Rattle.pg_texts.specs.CountText.{IsCounted};
+ghost use Rattle.pg_cli.specs.Answers.{IsGivenBy};
 ghost use Rattle.pg_cli.specs.Ending.{refuses};
 ghost use Rattle.pg_cli.specs.Runs.{AddsMoves, AddsShown, IsCountRefusal, IsMovesRefusal, IsOfBoard, IsShowRefusal};
 ghost use Rattle.pg_cli.specs.Words.{HasDiagram, HasFewPlies, HasPosition, OfPlies, SpellsBoard, spelled};
@@ -48,7 +49,8 @@ pub(crate) fn moves_on<W: Sink>(
 #[inline(never)]
 pub(crate) fn moves<R: Runtime + AllocGlobal>(rt: &R, words: &ArgMatches<'_>) -> Result<u8, Refusal>
     ensures ok { IfOk result (λ status. HasPosition (rows_of (found_of words.now)) status) }
-    ensures err { IfErr result (λ refusal. refuses (Command.Other OtherCommand.Moves) (rows_of (found_of words.now)) refusal) }
+    ensures err { IfErr result (λ refusal. refuses (IsGivenBy R.File.remaining R.Reader.remaining)
+        (Command.Other OtherCommand.Moves) (rows_of (found_of words.now)) refusal) }
 {
     let mut out = Gathered::new(ToWrite::new(io::writer(rt)));
     moves_on(rt.alloc(), words, &mut out)
@@ -87,7 +89,8 @@ pub(crate) fn count<R: Runtime + AllocGlobal>(
     screen: bool,
 ) -> Result<u8, Refusal>
     ensures ok { IfOk result (λ status. HasFewPlies (rows_of (found_of words.now)) status) }
-    ensures err { IfErr result (λ refusal. refuses (Command.Other OtherCommand.Count) (rows_of (found_of words.now)) refusal) }
+    ensures err { IfErr result (λ refusal. refuses (IsGivenBy R.File.remaining R.Reader.remaining)
+        (Command.Other OtherCommand.Count) (rows_of (found_of words.now)) refusal) }
 {
     let terminal = Terminal::new(screen);
     let mut line = CountLine::new(rt, &terminal);
@@ -171,7 +174,8 @@ pub(crate) fn show<R: Runtime + AllocGlobal>(
     bounds: &[Box<dyn Bound>],
 ) -> Result<u8, Refusal>
     ensures ok { IfOk result (λ status. HasDiagram (rows_of (found_of words.now)) status) }
-    ensures err { IfErr result (λ refusal. refuses (Command.Other OtherCommand.Show) (rows_of (found_of words.now)) refusal) }
+    ensures err { IfErr result (λ refusal. refuses (IsGivenBy R.File.remaining R.Reader.remaining)
+        (Command.Other OtherCommand.Show) (rows_of (found_of words.now)) refusal) }
 {
     let mut out = Gathered::new(ToWrite::new(io::writer(rt)));
     show_on(rt.alloc(), words, bounds, &mut out)

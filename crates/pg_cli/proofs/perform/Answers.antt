@@ -17,7 +17,7 @@ returns-in-Ok-asked_by g c =
     let is = c.in-Ok-asked_by.ensures.ok in
     record {
       ok = tells c.lend.result _ _ c.lend.ensures.ok (λ s h. asked_says names gives c.args.command rows c.in-Ok-asked_by.asked s is h);
-      err = tells_why c.lend.result _ _ c.lend.ensures.err (λ r h. asked_refused names c.args.command rows c.in-Ok-asked_by.asked r is h);
+      err = tells_why c.lend.result _ _ c.lend.ensures.err (λ r h. asked_refused names gives c.args.command rows c.in-Ok-asked_by.asked r is h);
     }
 
 pub returns-in-Err-asked_by : goal.returns-in-Err-asked_by

@@ -14,7 +14,7 @@ returns-in-Words g c =
     let gives = IsGivenBy g.R.File.Read.remaining g.R.Reader.Read.remaining in
     record {
       ok = tells c.on_list.result _ _ c.on_list.ensures (λ s h. said_as gives rows c.args.asked _ s c.in-Words.is h);
-      err = tells_why c.on_list.result _ _ (claims_nothing c.on_list.result) (λ r h. unsaid_as rows c.args.asked _ r c.in-Words.is h);
+      err = tells_why c.on_list.result _ _ (claims_nothing c.on_list.result) (λ r h. unsaid_as gives rows c.args.asked _ r c.in-Words.is h);
     }
 
 pub returns-in-Check : goal.returns-in-Check
@@ -23,7 +23,7 @@ returns-in-Check g c =
     let gives = IsGivenBy g.R.File.Read.remaining g.R.Reader.Read.remaining in
     record {
       ok = tells c.check.result _ _ c.check.ensures.ok (λ s h. said_as gives rows c.args.asked _ s c.in-Check.is h);
-      err = tells_why c.check.result _ _ c.check.ensures.err (λ r h. unsaid_as rows c.args.asked _ r c.in-Check.is h);
+      err = tells_why c.check.result _ _ c.check.ensures.err (λ r h. unsaid_as gives rows c.args.asked _ r c.in-Check.is h);
     }
 
 pub returns-in-Search : goal.returns-in-Search
@@ -32,7 +32,7 @@ returns-in-Search g c =
     let gives = IsGivenBy g.R.File.Read.remaining g.R.Reader.Read.remaining in
     record {
       ok = tells c.search.result _ _ c.search.ensures.ok (λ s h. said_as gives rows c.args.asked _ s c.in-Search.is h);
-      err = tells_why c.search.result _ _ c.search.ensures.err (λ r h. unsaid_as rows c.args.asked _ r c.in-Search.is h);
+      err = tells_why c.search.result _ _ c.search.ensures.err (λ r h. unsaid_as gives rows c.args.asked _ r c.in-Search.is h);
     }
 
 pub returns-in-File : goal.returns-in-File
@@ -42,7 +42,7 @@ returns-in-File g c =
     record {
       ok = tells c.tell.result _ _ c.tell.ensures (λ s h. said_as gives rows c.args.asked _ s c.in-File.is
           (subst (λ (x : OpenedState). says_of_certificate c.in-File.command x.diagram x.plies s) (opened_there _ _ c.deref_mut-in-File.ensures.value) h));
-      err = tells_why c.tell.result _ _ (claims_nothing c.tell.result) (λ r h. unsaid_as rows c.args.asked _ r c.in-File.is h);
+      err = tells_why c.tell.result _ _ (claims_nothing c.tell.result) (λ r h. unsaid_as gives rows c.args.asked _ r c.in-File.is h);
     }
 
 pub returns-in-Other : goal.returns-in-Other
@@ -51,5 +51,5 @@ returns-in-Other g c =
     let gives = IsGivenBy g.R.File.Read.remaining g.R.Reader.Read.remaining in
     record {
       ok = tells c.other.result _ _ c.other.ensures.ok (λ s h. said_as gives rows c.args.asked _ s c.in-Other.is h);
-      err = tells_why c.other.result _ _ c.other.ensures.err (λ r h. unsaid_as rows c.args.asked _ r c.in-Other.is h);
+      err = tells_why c.other.result _ _ c.other.ensures.err (λ r h. unsaid_as gives rows c.args.asked _ r c.in-Other.is h);
     }

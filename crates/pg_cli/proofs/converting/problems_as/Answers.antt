@@ -1,4 +1,9 @@
+use Rattle.std.proofs.Common.{List, ℕ, subst}
+use Rattle.std.specs.Prelude.{IfErr}
+use Rattle.pg_cli.specs.Runs.{IsReadFault}
 use Rattle.pg_cli.proofs.converting.problems_as.Goals as goal
 
 pub returns-then-is_pgn-clause-err : goal.returns-then-is_pgn-clause-err
-returns-then-is_pgn-clause-err c = c.problems_from.ensures.err c.args.name.now (c.is_pgn.ensures.0 c.if-is_pgn.true)
+returns-then-is_pgn-clause-err c =
+    subst (λ (x : List ℕ). IfErr c.problems_from.result (IsReadFault c.args.name.now x)) c.as_slice.ensures.value
+    (c.problems_from.ensures.err c.args.name.now (c.is_pgn.ensures.0 c.if-is_pgn.true))
