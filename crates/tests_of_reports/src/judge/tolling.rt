@@ -145,7 +145,7 @@ fn a_certificate_stands_behind_its_lead(rt: HostRuntime) {
     ) else {
         panic!(rt; "no tariffs");
     };
-    assert_eq!(rt; prepared.tariffs.len(), 3);
+    assert_eq!(rt; prepared.tariffs.len(), 2);
     let bounds = with_tolls(&rt, &entry, &prepared.tariffs);
     let mut scratch = Cursor::new(Vec::new(rt.alloc()));
     judged(&rt, &entry, prepared, ORDERS, &mut scratch, &mut Unwatched);
