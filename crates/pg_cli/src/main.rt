@@ -180,7 +180,7 @@ fn tariffs_for<R: Runtime + AllocGlobal, F>(
 ) -> Result<Vec<u8>, Refusal>
     ensures { IfErr result (λ refusal. IsUnready refusal
         ⊎ refuses_as_asked (IsGivenBy R.File.remaining R.Reader.remaining)
-            (rows_of (found_of words.now)) asked.now refusal) }
+        (rows_of (found_of words.now)) asked.now refusal) }
 {
     match asked {
         Asked::Check(_, carrying) => Ok(Vec::from_slice(rt.alloc(), carrying.stated.as_slice())?),
@@ -207,7 +207,7 @@ fn serve<R: Runtime + AllocGlobal, F: Read + Drop>(
         (rows_of (found_of words.now)) asked status) }
     ensures err { IfErr result (λ refusal. IsUnready refusal
         ⊎ refuses_as_asked (IsGivenBy R.File.remaining R.Reader.remaining)
-            (rows_of (found_of words.now)) asked refusal) }
+        (rows_of (found_of words.now)) asked refusal) }
 {
     match asked {
         Asked::Words(command, problem) => on_list(rt, command, words, problem, screen),
@@ -237,7 +237,7 @@ fn lend<R: Runtime + AllocGlobal, F: Read + Drop>(
         (rows_of (found_of words.now)) asked status) }
     ensures err { IfErr result (λ refusal. IsUnready refusal
         ⊎ refuses_as_asked (IsGivenBy R.File.remaining R.Reader.remaining)
-            (rows_of (found_of words.now)) asked refusal) }
+        (rows_of (found_of words.now)) asked refusal) }
 {
     let captures = Box::new(rt.alloc(), Captures)?;
     let promotions = Box::new(rt.alloc(), Promotions)?;
@@ -300,7 +300,7 @@ fn perform<R: Runtime + AllocGlobal>(
         (IsGivenBy R.File.remaining R.Reader.remaining) command (rows_of (found_of words.now)) status) }
     ensures err { IfErr result (λ refusal. IsUnready refusal
         ⊎ refuses (IsGivenBy R.File.remaining R.Reader.remaining)
-            command (rows_of (found_of words.now)) refusal) }
+        command (rows_of (found_of words.now)) refusal) }
 {
     match ready(words) {
         Ok(()) => {}
