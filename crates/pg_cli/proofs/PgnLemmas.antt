@@ -1,6 +1,6 @@
 -- Which names are those of files of games in PGN, and what a name gives as a list of problems. Leads to the contract of `judge`.
 use Rattle.std.proofs.Common.{◌≡◌, ◌-◌, ◌∙◌, ℕ, Bool, List, length, subst, sym, take}
-use Rattle.std.specs.Prelude.{◌↔◌, Result, Ok, Err, IfOk, IsTrue, codes}
+use Rattle.std.specs.Prelude.{◌↔◌, Result, Ok, Err, IfOk, IfErr, IsTrue, codes}
 use Rattle.std.specs.List.{ends_with}
 use Rattle.std.proofs.Math.Dec.{eqb}
 use Rattle.std.proofs.lemmas.Bool.Decides.{Decides-eqb}
