@@ -244,6 +244,3 @@ shown_none c u v to owner K H n i j x few li lj paid far s h = least_none (With 
     let b : x + v j + c i j + H j ≤ y + u i = none_below c u v to owner K H n i j x few li lj paid s h y t in
     let l : y ≤ 254 * n = total_low c (Below n) n y (t.0, t.1, t.3) in
     omega arith))
-
-pub no_cost_none : (c : ℕ → ℕ → ℕ) (n i j : ℕ) → i < n → c i j ≡ 255 → IsLeast (With c n i j) None
-no_cost_none c n i j l e = least_none (With c n i j) (λ y t. (let s : c i (t.0 i) < 255 = t.1.exists i l in let z : c i (t.0 i) ≡ c i j = ap (c i) t.2 in omega arith))

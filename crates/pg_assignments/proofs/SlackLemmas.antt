@@ -5,7 +5,7 @@ use Rattle.std.proofs.lemmas.List.{get_or-set_same, get_or-set_other}
 use Rattle.pg_assignments.specs.declared.costs.Costs.{Costs}
 use Rattle.pg_assignments.specs.Assignments.{cost, nth, at2}
 use Rattle.pg_assignments.specs.Dual.{Fits}
-use Rattle.pg_assignments.specs.Handing.{AreWithin, IsSlackOf, IsSlackRow, IsSlackIf, IsOverRow, AreNone, IsFitted}
+use Rattle.pg_assignments.specs.Handing.{IsSlackOf, IsSlackRow, IsSlackIf, IsOverRow, AreNone}
 use Rattle.pg_assignments.proofs.TestLemmas.{fits_next}
 
 pub slacks_next : (k : Costs) (us vs slack : List ℕ) (slacks : List (List ℕ)) (i m : ℕ) → m ≡ i + 1 → i < length slacks → IsSlackRow (get_or k.rows i []) (get_or us i 0) vs slack 16 → IsSlackIf (cost k) (nth us) (nth vs) slacks i → IsSlackIf (cost k) (nth us) (nth vs) (set slacks i slack) m
@@ -20,10 +20,3 @@ slacks_next k us vs slack slacks i m e low row before = λ a q l h. elim (eqb_te
 -- nothing is over only where all rows fit
 pub over_next : (k : Costs) (us vs old over : List ℕ) (i m : ℕ) → m ≡ i + 1 → IsOverRow old (get_or k.rows i []) (get_or us i 0) vs over 16 → (AreNone old 16 → Fits (cost k) (nth us) (nth vs) i 16) → AreNone over 16 → Fits (cost k) (nth us) (nth vs) m 16
 over_next k us vs old over i m e row before none = fits_next k us vs i m e (before (λ q l. (row q l (none q l)).0)) (λ j l h. (row j l (none j l)).1 h)
-
-pub fitted_all : (k : Costs) (us vs : List ℕ) (slacks : List (List ℕ)) (n : ℕ) → n ≡ k.size → AreWithin vs 16 32768 → Fits (cost k) (nth us) (nth vs) n 16 → IsSlackIf (cost k) (nth us) (nth vs) slacks n → IsFitted k us vs slacks
-fitted_all k us vs slacks n e low fits is = record {
-  fits = λ i j l h x. fits i j (omega arith) h x;
-  low = low;
-  slack = λ a q l h. (λ x. (is a q (omega arith) h).0 x (fits a q (omega arith) h x), (is a q (omega arith) h).1);
-}

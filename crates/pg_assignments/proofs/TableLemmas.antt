@@ -1,27 +1,14 @@
 -- What least totals say of sums, for those who ask for them.
-use Rattle.std.proofs.Common.{◌≡◌, ◌≢◌, ℕ, ◌+◌, ◌-◌, ◌*◌, ◌<◌, ◌≤◌, inl, inr, List, Some, None, sym, subst, arith}
-use Rattle.std.proofs.lemmas.Bool.Decides.{eqb_tells}
+use Rattle.std.proofs.Common.{◌≡◌, ℕ, ◌+◌, ◌-◌, ◌*◌, ◌<◌, ◌≤◌, List, Some, None, sym, arith}
 use Rattle.pg_board.specs.Tally.{total}
 use Rattle.pg_board.specs.lemmas.Sums.{total_same}
 use Rattle.pg_assignments.specs.declared.costs.Costs.{Costs}
-use Rattle.pg_assignments.specs.Assignments.{cost, Below, IsTotal, IsLeastTotal, IsLeastWith, IsTotalWith, nth, told}
+use Rattle.pg_assignments.specs.Assignments.{cost, Below, IsTotal, IsLeastTotal, nth}
 use Rattle.pg_assignments.specs.Dual.{Fits, AreBelow}
 use Rattle.pg_assignments.specs.Totals.{IsBeyond}
 use Rattle.pg_assignments.proofs.SumLemmas.{total-sum, total-spare}
 use Rattle.pg_assignments.proofs.DualLemmas.{weak_duality}
-use Rattle.pg_assignments.proofs.LeastLemmas.{none_holds, some_holds, some_least}
-use Rattle.pg_assignments.proofs.ToldLemmas.{told_none, told_some}
-
--- a number of a table is at most each sum that has the row at the column; where it is 65535 there is no such sum
-pub told_least : (k : Costs) (i j x y : ℕ) → IsLeastWith k i j (told x) → IsTotalWith k i j y → x ≤ y
-told_least k i j x y h t = elim (eqb_tells x 65535) [
-  | inl w ↦ absurd (none_holds (IsTotalWith k i j) (subst (λ o. IsLeastWith k i j o) (told_none x w.1) h) y t)
-  | inr w ↦ some_least (IsTotalWith k i j) x (subst (λ o. IsLeastWith k i j o) (told_some x w.1) h) y t
-]
-
--- and is itself such a sum, but for 65535
-pub told_total : (k : Costs) (i j x : ℕ) → x ≢ 65535 → IsLeastWith k i j (told x) → IsTotalWith k i j x
-told_total k i j x ne h = some_holds (IsTotalWith k i j) x (subst (λ o. IsLeastWith k i j o) (told_some x ne) h)
+use Rattle.pg_assignments.proofs.LeastLemmas.{none_holds, some_least}
 
 -- where there is no total, or the least is above most
 pub beyond_none : (k : Costs) (most : ℕ) → IsLeastTotal k None → IsBeyond k most

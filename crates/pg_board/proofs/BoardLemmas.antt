@@ -9,9 +9,9 @@ use Rattle.pg_board.specs.Tally.{count_below, count_of, tally, tally_below}
 use Rattle.pg_board.specs.lemmas.Sums.{count_below_same}
 use Rattle.pg_board.specs.Men.{is_man, is_of, is_held}
 use Rattle.pg_board.specs.lemmas.Equalities.{is_man_decides}
-use Rattle.pg_board.specs.Placement.{Placement, placement_of, get, get-placement_of, empty, empty_is, write, without, write_is, get_off, same_placement, IsFirst}
+use Rattle.pg_board.specs.Placement.{Placement, placement_of, get, get-placement_of, empty, empty_is, write, write_is, get_off, same_placement, IsFirst}
 use Rattle.pg_board.specs.Bits.{has, has-none, has-first, ones-count}
-use Rattle.pg_board.specs.inner.Sets.{man_in, IsSound, IsSound-replaced, AreWords, Replaces, Shows, shown, man_in-replaced, unlike, unlike_out, unlike_in, set_of, set_of_color, has-set_of, has_color, has-held, sets_of, sets_of-placement_of}
+use Rattle.pg_board.specs.inner.Sets.{man_in, IsSound, Replaces, Shows, shown, man_in-replaced, unlike, unlike_out, unlike_in, set_of, set_of_color, has-set_of, has_color, has-held, sets_of, sets_of-placement_of}
 use Rattle.pg_board.specs.declared.sets.Sets.{Sets}
 
 -- ---- a placement that is made of a function f
@@ -109,12 +109,6 @@ module _ (s : Sets) (b : Placement) (v : placement_of (man_in s) ≡ b) where
               let moved : has (set_of s m) q ≡ has n q = ap (λ x. has x q) (sym e) in
               cc;
         }
-
--- what stood on one square goes to another
-pub relocate_sets : (s : Sets) (b : Placement) → placement_of (man_in s) ≡ b → IsSound s → (emptied t : Sets) (i j p q : ℕ) → i ≡ p → j ≡ q → p < 64 → Replaces s i None emptied → AreWords emptied → Replaces emptied j (man_in s i) t → placement_of (man_in t) ≡ write (without b p) q (get b p)
-relocate_sets s b v h emptied t i j p q e f l r w a =
-    write_sets emptied (without b p) (write_sets s b v h emptied i p None e r) (IsSound-replaced s emptied i None h r w) t j q (man_in s i) f a
-    ∙ ap (write (without b p) q) (get_sets s b v i p e l)
 
 pub same_from_sets : (s t : Sets) (a b : Placement) → placement_of (man_in s) ≡ a → placement_of (man_in t) ≡ b → s ≡ t → a ≡ b
 same_from_sets s t a b v w e = sym v ∙ ap (λ u. placement_of (man_in u)) e ∙ w

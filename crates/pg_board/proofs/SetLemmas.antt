@@ -252,12 +252,6 @@ has-without a b q l k = has-and a (bit_not w64 b) q ∙ ap (λ y. has a q && y) 
 pub set_like : {P Q : ℕ → Type 0} (n : ℕ) → ((q : ℕ) → q < 64 → P q → Q q) → ((q : ℕ) → q < 64 → Q q → P q) → IsSetOf n P → IsSetOf n Q
 set_like n f g h q l = Decides-like (has n q) (f q l) (g q l) (h q l)
 
-pub set_or : {P Q : ℕ → Type 0} (a b : ℕ) → IsSetOf a P → IsSetOf b Q → IsSetOf (bit_or a b) (λ q. P q ⊎ Q q)
-set_or a b f g q l = Decides-at _ _ (has-or a b q) (Decides-or _ _ (f q l) (g q l))
-
-pub set_without : {P Q : ℕ → Type 0} (a b : ℕ) → b < 2 ^ 64 → IsSetOf a P → IsSetOf b Q → IsSetOf (bit_and a (bit_not w64 b)) (λ q. P q × ¬ Q q)
-set_without a b s f g q l = Decides-at _ _ (has-without a b q s l) (Decides-and _ _ (f q l) (Decides-not _ (g q l)))
-
 -- ---- the same of a set that is said by its members
 pub set_of_union : {P Q : ℕ → Type 0} (n a b : ℕ) → ((q : ℕ) → has n q ≡ has a q || has b q) → IsSetOf a P → IsSetOf b Q → IsSetOf n (λ q. P q ⊎ Q q)
 set_of_union n a b e f g q l = Decides-at _ _ (e q) (Decides-or _ _ (f q l) (g q l))

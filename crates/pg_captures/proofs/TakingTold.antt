@@ -4,15 +4,13 @@ use Rattle.std.specs.Bool.{Decides}
 use Rattle.pg_board.specs.declared.man.Color.{Color}
 use Rattle.pg_board.specs.declared.man.Color.TheVariants.{White, Black}
 use Rattle.pg_board.specs.declared.man.Kind.{Kind}
-use Rattle.pg_board.specs.declared.man.Kind.TheVariants.{Pawn}
-use Rattle.pg_board.specs.declared.man.Man.{Man}
 use Rattle.pg_board.specs.Bits.{has}
-use Rattle.pg_board.specs.Men.{man, other, is_of, is_man}
+use Rattle.pg_board.specs.Men.{man, other, is_of}
 use Rattle.pg_board.specs.Placement.{Placement, get}
-use Rattle.pg_board.specs.lemmas.Equalities.{is_man_decides, of_decides}
+use Rattle.pg_board.specs.lemmas.Equalities.{of_decides}
 use Rattle.pg_position.specs.declared.state.State.{State}
 use Rattle.pg_position.specs.declared.moves.Move.{Move}
-use Rattle.pg_position.specs.Position.{Stands, IsPosition}
+use Rattle.pg_position.specs.Position.{IsPosition}
 use Rattle.pg_position.specs.Step.{IsEnemy, Legal}
 use Rattle.pg_captures.specs.Counting.{men, any_man}
 use Rattle.pg_captures.specs.Owed.{plies_left, victims, CapturesFor, CapturesHolds}
@@ -28,13 +26,6 @@ enemy_told b there c side theirs n s r eb ec et set is low =
     let e : r ≡ is_of (other c) (get b s) = is ∙ set s low ∙ (λ i. is_of (color i) (get (eb i) s)) in
     let d : Decides (is_of (other c) (get b s)) ((k : Kind) × (get b s ≡ Some (man (other c) k))) = of_decides (other c) (get b s) in
     (λ t. d.0 (sym e ∙ t), λ x. e ∙ d.1 x)
-
-pub pawn_told : (b there : Placement) (c side : Color) (x : Man) (n s : ℕ) (r : Bool) → there ≡ b → side ≡ c → x ≡ man side Pawn → ((q : ℕ) → q < 64 → has n q ≡ is_man x (get there q)) → r ≡ has n s → s < 64 → IsTrue r ↔ Stands b c Pawn s
-pawn_told b there c side x n s r eb ec ex set is low =
-    let pawn : x ≡ man c Pawn = ex ∙ ap (λ (y : Color). man y Pawn) ec in
-    let e : r ≡ is_man (man c Pawn) (get b s) = is ∙ set s low ∙ (λ i. is_man (pawn i) (get (eb i) s)) in
-    let d : Decides (is_man (man c Pawn) (get b s)) (get b s ≡ Some (man c Pawn)) = is_man_decides (man c Pawn) (get b s) in
-    (λ t. d.0 (sym e ∙ t), λ h. e ∙ d.1 h)
 
 -- ---- the captures owed
 -- fewer than none, or more than `plies`

@@ -103,9 +103,6 @@ pub record Then {A B : Type 0} (S : A → List ℕ → Type 0) (T : A → B → 
 abbrev then_read : {A B : Type 0} → (List ℕ → Read A) → (A → List ℕ → Read B) → List ℕ → Read B
 then_read f k bytes = f bytes >>= λ x. k x.0 x.1
 
-joined : (s t r : List ℕ) (u v : List ℕ) → s ≡ u → t ++ r ≡ v → (s ++ t) ++ r ≡ u ++ v
-joined s t r u v p q = append_assoc s t r ∙ ap (λ (l : List ℕ). s ++ l) q ∙ ap (λ (l : List ℕ). l ++ v) p
-
 longer_short : {A B : Type 0} (S : A → List ℕ → Type 0) (T : A → B → List ℕ → Type 0) → ((a : A) → (b : B) × (t : List ℕ) × T a b t) → (bytes : List ℕ) → Short S bytes → Short (Then S T) bytes
 longer_short S T some bytes s =
     let t = some s.whole in

@@ -10,11 +10,11 @@ use Rattle.pg_price_lists.specs.PriceLists.{PriceList}
 use Rattle.pg_certificate.specs.declared.outline.Outline.{Outline}
 use Rattle.pg_certificate.specs.Spelling.{AreBytes, spelling}
 use Rattle.pg_certificate.specs.inner.Outlines.{IsOutline, outline_spelling, AreListsOf, lists_spelling}
-use Rattle.pg_certificate.specs.Reading.{exactly, lists_of, lists_at}
+use Rattle.pg_certificate.specs.Reading.{lists_of, lists_at}
 use Rattle.pg_certificate.specs.Reader.{Leaves}
-use Rattle.pg_certificate.proofs.ListTexts.{many_lists, are_lists, spelled_lists}
+use Rattle.pg_certificate.proofs.ListTexts.{many_lists, are_lists}
 use Rattle.pg_certificate.proofs.PricedTexts.{lists_reads}
-use Rattle.pg_certificate.proofs.RecordLaws.{few_bytes, lists_are, priced_of, priced_spelling}
+use Rattle.pg_certificate.proofs.RecordLaws.{lists_are, priced_of, priced_spelling}
 
 -- how many bytes the lists have
 abbrev pub all_bytes : Outline → ℕ
@@ -38,17 +38,6 @@ lists_held o ls held rest (Some l) e are =
     ap (λ (m : List ℕ). lists_at o (m ++ l)) e
     ∙ ap (lists_at o) (append_assoc (lists_spelling ls) rest l)
     ∙ (lists_reads o).again ls (lists_spelling ls) (rest ++ l) (are, refl)
-
-pub few : (o : Outline) → IsOutline o → all_bytes o ≤ 3 * (64 + 64)
-few o is = few_bytes o.ways o.sources o.targets is.few is.sources is.targets
-
-pub lists_given : (before after : Option (List ℕ)) (o : Outline) (n : ℕ) (out : List ℕ) (ls : List PriceList) → n ≡ all_bytes o → ls ≡ lists_of o.ways o.sources o.targets out → Leaves (exactly n) before after out → Leaves (lists_at o) before after ls
-lists_given None after o n out ls len e h = tt
-lists_given (Some bytes) None o n out ls len e h = absurd h
-lists_given (Some bytes) (Some rest) o n out ls len e h = let h2 : Leaves (exactly (all_bytes o)) (Some bytes) (Some rest) out = subst (λ (k : ℕ). Leaves (exactly k) (Some bytes) (Some rest) out) len h in rw (h2, e) refl
-
-pub lists_text : (before after : Option (List ℕ)) (o : Outline) (out : List ℕ) (ls : List PriceList) → length out ≡ all_bytes o → ls ≡ lists_of o.ways o.sources o.targets out → Consumes before after out → Consumes before after (lists_spelling ls)
-lists_text before after o out ls len e h = subst (Consumes before after) (sym (ap lists_spelling e ∙ spelled_lists o.ways o.sources o.targets out len)) h
 
 past : (out : List ℕ) (i : ℕ) → length out ≤ i → get_or out i 0 < 256
 past [] i p = omega arith

@@ -32,9 +32,6 @@ Behind version b r text = IsRecordOf version r × (spelling r ≡ b ∷ text)
 abbrev done : Record × List ℕ → Read Record
 done x = Ok x
 
-abbrev is_of : (version : ℕ) (r : Record) → Type 0
-is_of version r = IsRecordOf version r
-
 -- ---- 01 and 05
 
 abbrev expanded : Bool → List ℕ → Read Record

@@ -48,10 +48,6 @@ lost_finding d n finds games game fault loss same many h out is = record {
   };
 }
 
--- it is there already
-pub there_found : (finds : Finds) (game : List Move) (has : Bool) → IsTrue has ↔ Contains finds.games game → has ≡ true → IsFound finds game
-there_found finds game has h e = inl (h.0 e)
-
 pub not_there : (games : List (List Move)) (game : List Move) (has : Bool) → IsTrue has ↔ Contains games game → has ≡ false → ¬ Contains games game
 not_there games game has h e c = let t : has ≡ true = h.1 c in let u : true ≡ false = sym t ∙ e in cc
 

@@ -1,13 +1,13 @@
 -- What was opened begins with its header. Leads to the contracts of `open` and `answer_opened`.
-use Rattle.std.proofs.Common.{◌≡◌, ℕ, List, [], ◌++◌, Option, Some, None, IfSome, Ok, refl, sym, ◌∙◌, ap, subst}
-use Rattle.std.specs.Io.KnownBytes.{Consumes, prepend_known}
+use Rattle.std.proofs.Common.{◌≡◌, ℕ, List, [], Option, Some, None, IfSome, Ok, refl, subst}
+use Rattle.std.specs.Io.KnownBytes.{prepend_known}
 use Rattle.pg_board.specs.Placement.{Placement}
 use Rattle.pg_certificate.specs.declared.record.Header.{Header}
 use Rattle.pg_certificate.specs.Reader.{ReaderState, Reads, to_come}
 use Rattle.pg_certificate.specs.Reading.{header_at}
 use Rattle.pg_certificate.specs.Spelling.{header_spelling, IsVersion}
 use Rattle.pg_checker.specs.Check.{header_for}
-use Rattle.pg_checker.specs.Naming.{Begins, IsNamed}
+use Rattle.pg_checker.specs.Naming.{Begins}
 use Rattle.pg_checker.specs.Opening.{OpenedState, behind, bytes_of}
 use Rattle.pg_checker.specs.inner.Checking.{Headed}
 use Rattle.pg_checker.proofs.Certifying.{left_alone}
@@ -22,21 +22,6 @@ pub begins : (Holds : Header → Type 0) (reader : ReaderState) (left after : Op
     → Reads {A = Header} header_at (to_come reader left) after (Ok h) → Holds h → IfSome left (Begins Holds)
 begins Holds reader left after h e read_ holds =
     known_begins Holds left after h (subst (λ (v : Option (List ℕ)). Reads {A = Header} header_at v after (Ok h)) (left_alone reader left e) read_) holds
-
-header_is : (h : Header) (d : Placement) (n : ℕ) → IsNamed h d n → header_for h.version d n ≡ h
-header_is h d n k = λ i. record { version = h.version; plies = k.plies i; diagram = k.packed i }
-
-known_whole : (h : Header) (d : Placement) (n : ℕ) → IsNamed h d n → (known after : Option (List ℕ)) → Consumes known after (header_spelling h)
-    → IfSome known (λ bytes. prepend_known (header_spelling (header_for h.version d n)) after ≡ Some bytes)
-known_whole h d n k None after c = tt
-known_whole h d n k (Some bytes) None c = absurd c
-known_whole h d n k (Some bytes) (Some rest) c = ap Some (ap (λ (x : Header). header_spelling x ++ rest) (header_is h d n k) ∙ sym c)
-
--- the bytes of what was opened are those of the source that it was opened from
-pub whole : (h : Header) (d : Placement) (n : ℕ) (reader : ReaderState) (left after : Option (List ℕ)) → IsNamed h d n → reader.held ≡ []
-    → Consumes (to_come reader left) after (header_spelling h)
-    → IfSome left (λ bytes. prepend_known (header_spelling (header_for h.version d n)) after ≡ Some bytes)
-whole h d n reader left after k e c = known_whole h d n k left after (subst (λ (v : Option (List ℕ)). Consumes v after (header_spelling h)) (left_alone reader left e) c)
 
 headed_for : (version : ℕ) (d : Placement) (n : ℕ) (after : Option (List ℕ)) → IsVersion version
     → Headed d n (prepend_known (header_spelling (header_for version d n)) after) after version

@@ -121,10 +121,6 @@ passes_all d old new off same end = record {
   elsewhere = off;
 }
 
--- where no legal move leads to the diagram, none that is left does
-pub far_elsewhere : (d : Placement) (moves : MovesLeft) → ((m : Move) (q : State) → Legal moves.position m q → q.board ≢ d) → AllElsewhere d moves
-far_elsewhere d moves far m c q legal = far m q legal
-
 -- ---- the frame on top
 -- the machine with this frame on top of those of another
 abbrev pub topped : Machine → Machine → Frame → Machine

@@ -30,7 +30,7 @@ use Rattle.pg_cli.specs.declared.commands.OtherCommand.{OtherCommand}
 use Rattle.pg_cli.specs.declared.commands.ProblemCommand.{ProblemCommand}
 use Rattle.pg_cli.specs.declared.knowing.Listed.{Listed}
 use Rattle.pg_cli.specs.declared.refusals.Refusal.{Refusal}
-use Rattle.pg_cli.specs.declared.refusals.Refusal.TheVariants.{Open, NotUtf8, Read, Write, Memory, Tariffs}
+use Rattle.pg_cli.specs.declared.refusals.Refusal.TheVariants.{Open, Read, Write, Memory, Tariffs}
 
 -- a refused file is a refused input
 pub of_input : (refusal : Refusal) → IsOfFile refusal → IsOfInput refusal
@@ -156,10 +156,6 @@ asked_refused Names Gives command rows (asked.Search given) refusal is (inr h) =
     refused_as Gives command Search rows refusal is.0 (search_refused Gives rows given refusal is.1 h)
 asked_refused Names Gives command rows (asked.File of certificate) refusal is (inr h) = inr (certificate_unsaid Gives command of rows refusal is.0)
 asked_refused Names Gives command rows (asked.Other of) refusal is (inr h) = refused_as Gives command (Other of) rows refusal is h
-
--- memory was refused before the command was done
-pub unready : {P : Type 0} (refusal : Refusal) → refusal ≡ Memory → IsUnready refusal ⊎ P
-unready refusal e = inl (subst (λ (r : Refusal). IsUnready r) (sym e) tt)
 
 -- a certificate in its box is named as the one that was put there
 pub opened_there : {F : Type 0} (c d : Certificate F) → c ≡ d → c.opened ≡ d.opened

@@ -1,62 +1,29 @@
 -- Lines that are judged one behind the other. Leads to the contracts of `judge_and_tell`, `judge_line` and `judge_all`.
-use Rattle.std.proofs.Common.{◌≡◌, ◌≢◌, ◌∙◌, inl, inr, ℕ, ◌≤◌, Bool, false, true, List, [], ◌∷◌, ◌++◌, refl, sym, ap, subst, arith, max}
-use Rattle.std.specs.Prelude.{All, Option, Some, None}
-use Rattle.std.specs.Io.KnownBytes.{Appends, Keeps, append_known}
-use Rattle.std.proofs.KnownBytes.{Appends-kept, Appends-nil, Appends-trans, Keeps-trans}
+use Rattle.std.proofs.Common.{◌≡◌, ◌≢◌, ◌∙◌, inl, inr, ℕ, ◌≤◌, Bool, List, [], ◌∷◌, ◌++◌, refl, sym, ap, subst, arith, max}
+use Rattle.std.specs.Prelude.{All, Option}
+use Rattle.std.specs.Io.KnownBytes.{Appends}
+use Rattle.std.proofs.KnownBytes.{Appends-nil, Appends-trans}
 use Rattle.std.proofs.Math.Nat.{le-max_left, le-max_right}
 use Rattle.std.proofs.lemmas.Int.{clamps}
 use Rattle.std.proofs.lemmas.List.{append-nil, append_assoc}
 use Rattle.std.proofs.lemmas.List.Elements.{All-cons, All-nil}
 use Rattle.pg_certificate.specs.Pushing.{AddsSome}
-use Rattle.pg_streams.specs.Buffer.{IsHandedOn, sink_of}
 use Rattle.pg_streams.specs.declared.gathered.Gathered.{Gathered}
 use Rattle.pg_files.specs.declared.faults.FileFault.{FileFault}
 use Rattle.pg_judge.specs.Entries.{IsEntry}
-use Rattle.pg_judge.specs.Rows.{IsRowOf}
-use Rattle.pg_judge.specs.Ruling.{IsFindingOf, IsGiven, IsSaidSound, IsSoundLine}
+use Rattle.pg_judge.specs.Ruling.{IsSaidSound, IsSoundLine}
 use Rattle.pg_judge.specs.declared.entry.Entry.{Entry}
 use Rattle.pg_judge.specs.declared.given.Given.{Given}
 use Rattle.pg_judge.specs.declared.given.Given.TheVariants.{NoGame, Solves, StopsAt, OfPlies, EndsElsewhere}
-use Rattle.pg_judge.specs.declared.old.Old.{Old}
 use Rattle.pg_judge.specs.declared.ruling.Finding.{Finding}
-use Rattle.pg_judge.specs.declared.ruling.Ruling.{Ruling}
 use Rattle.pg_judge.proofs.GameLemmas.{sound_means}
 use Rattle.pg_san.specs.GameText.{lines}
-use Rattle.pg_cli.specs.Judging.{AreJudged, EndsRun, IsBad, IsCutOff, IsFindingStatus, IsJudged, IsRowStatus, IsRuled, IsSpoiled}
+use Rattle.pg_cli.specs.Judging.{AreJudged, EndsRun, IsBad, IsCutOff, IsFindingStatus, IsJudged, IsRowStatus, IsRuled}
 use Rattle.pg_cli.specs.declared.judging.Spoiled.{Spoiled}
 use Rattle.pg_cli.specs.declared.judging.Spoiled.TheVariants.{Run, Place}
 use Rattle.pg_cli.specs.declared.refusals.Refusal.{Refusal}
 use Rattle.pg_cli.specs.declared.refusals.Refusal.TheVariants.{Write, Memory}
 use Rattle.pg_cli.proofs.WrittenLemmas.{held_by}
-
--- ---- what is handed on
-nothing_more : (a : Option (List ℕ)) → Keeps a (append_known a [])
-nothing_more None = tt
-nothing_more (Some xs) = append-nil xs
-
--- a buffer that has handed on all that it gathered holds what it held before
-pub still_held : {W : Type 0} (held : W → Option (List ℕ)) (old new : Gathered W) → Keeps (held_by held old) (held (sink_of new)) → IsHandedOn new
-    → Keeps (held_by held old) (held_by held new)
-still_held held old new h e =
-    Keeps-trans (held_by held old) (held (sink_of new)) (held_by held new) h
-    (subst (λ (x : List ℕ). Keeps (held (sink_of new)) (append_known (held (sink_of new)) x)) (sym e) (nothing_more (held (sink_of new))))
-
--- a text of this kind that was appended to it stands there still
-pub still_added : {W : Type 0} (held : W → Option (List ℕ)) (Is : List ℕ → Type 0) (a : Option (List ℕ)) (old new : Gathered W)
-    → AddsSome Is a (held_by held old) → Keeps (held_by held old) (held (sink_of new)) → IsHandedOn new → AddsSome Is a (held_by held new)
-still_added held Is a old new h k e =
-    (h.0, h.1, Appends-kept a (held_by held old) (held_by held new) h.0 h.2 (still_held held old new k e))
-
--- ---- why a run ends
-ends_anyhow : (failed : Bool) (refusal : Refusal) → EndsRun false refusal → EndsRun failed refusal
-ends_anyhow failed Memory h = tt
-ends_anyhow failed Write h = absurd (let z : false ≡ true = h in cc)
-ends_anyhow failed refusal h = absurd h
-
--- where nothing was to be written, whatever became of the sink
-pub spoiled_anyhow : (failed : Bool) (spoiled : Spoiled) → IsSpoiled false spoiled → IsSpoiled failed spoiled
-spoiled_anyhow failed (Run refusal) h = ends_anyhow failed refusal h
-spoiled_anyhow failed (Place fault) h = tt
 
 -- ---- a line
 -- nothing is written for a line that is bad
@@ -70,11 +37,6 @@ pub place_adds : {W : Type 0} (held : W → Option (List ℕ)) (line : List ℕ)
 place_adds held line status fault spoiled old new e h is unless =
     let same = unless (λ run. absurd (let z : Place fault ≡ Run Write = sym is ∙ run in cc)) in
     subst (λ x. AddsSome (IsJudged line status) (held_by held old) (held_by held x)) (sym same) (bad_adds line status (held_by held old) e h)
-
--- what is written is the row of what is found, which is true, and the status is that of the row
-pub ruled : (entry : Entry) (ruling : Ruling) (old : Old) (given : Given) (status : ℕ) (a b : Option (List ℕ)) → IsFindingOf entry ruling.finding
-    → IsGiven entry given → IsRowStatus given ruling.finding status → AddsSome (IsRowOf entry ruling old) a b → AddsSome (IsRuled entry status) a b
-ruled entry ruling old given status a b true_of by worth h = (h.0, (ruling, old, given, true_of, h.1, by, worth), h.2)
 
 pub ruled_adds : (line : List ℕ) (status : ℕ) (entry : Entry) (a b : Option (List ℕ)) → IsEntry line entry → AddsSome (IsRuled entry status) a b
     → AddsSome (IsJudged line status) a b

@@ -16,14 +16,11 @@ use Rattle.pg_checker.specs.ProblemText.{IsProblemFault}
 use Rattle.pg_checker.specs.Terms.{Terms}
 use Rattle.pg_checker.specs.declared.fault.ProblemFault.{ProblemFault}
 use Rattle.pg_checker.specs.declared.fault.ProblemFault.TheVariants as problem
-use Rattle.pg_cooks.specs.Known.{IsListingFault}
-use Rattle.pg_cooks.specs.declared.fault.ListingFault.{ListingFault}
 use Rattle.pg_cooks.specs.declared.fault.ListingFault.TheVariants as listing
 use Rattle.pg_report.specs.Run.{Failures, of_problem}
 use Rattle.pg_report.specs.declared.fault.RunFault.TheVariants.{Check as CheckFault}
 use Rattle.pg_checker.specs.declared.problem.Problem.{Problem}
 use Rattle.pg_cli.specs.Asking.{IsOfWords}
-use Rattle.pg_cli.specs.Refusals.{listing_refusal}
 use Rattle.pg_cli.specs.Runs.{AreMet, IsFoundRefusal, IsGivenUp, IsOfProblem, IsSearchRefusal, search_refusal}
 use Rattle.pg_cli.specs.Words.{spelled, IsNumber, IsSpelled}
 use Rattle.pg_cli.specs.declared.refusals.Reached.{Reached}
@@ -114,9 +111,3 @@ unfound d n list t failed (Ok s) h = tt
 unfound d n list t failed (Err (Check (CheckFault fault))) h = (list, h.2)
 unfound d n list t failed (Err (Check fault)) h = tt
 unfound d n list t failed (Err r) h = absurd h
-
--- or where a game that it met is not written as a solution
-pub unlisted : (d : Placement) (n : ℕ) (list : List (List Move)) (failed : Bool) (refusal : Refusal) (fault : ListingFault)
-    → refusal ≡ listing_refusal fault → IsListingFault d n list failed fault → IsSearchRefusal d n refusal
-unlisted d n list failed refusal (listing.Listed fault) e h = subst (λ (r : Refusal). IsSearchRefusal d n r) (sym e) ([], tt)
-unlisted d n list failed refusal listing.Write e h = subst (λ (r : Refusal). IsSearchRefusal d n r) (sym e) tt

@@ -57,10 +57,6 @@ read_rank (b ∷ text) s l =
     (squares_of b, squares text, flat_map-cons squares_of b text, read_symbol b q.0 (not_true (is_slash b) p.0), read_rank text p.1 q.1)
 
 -- ---- parts with a slash between two of them
--- each part has no slash
-abbrev AreParts : List (List ℕ) → Type 0
-AreParts parts = All (λ part. All (λ b. is_slash b ≡ false) part) parts
-
 split_join : (first : List ℕ) (parts : List (List ℕ)) → All (λ b. is_slash b ≡ false) first → ((i : ℕ) → i < length parts → All (λ b. is_slash b ≡ false) (get_or parts i []))
     → slice_split is_slash (join_with_byte slash (first ∷ parts)) ≡ first ∷ parts
 split_join first [] one h = slice_split_none is_slash first one

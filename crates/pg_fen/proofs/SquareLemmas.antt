@@ -16,9 +16,6 @@ use Rattle.pg_board.specs.lemmas.Placements.{get-empty, get-put_same, get-put_ot
 use Rattle.pg_fen.specs.Letters.{man_of, kind_of_letter}
 use Rattle.pg_fen.specs.PlacementText.{is_run, is_slash, width_of, is_eight_wide, ranks_fit, is_letter, letters_fit, square_with, squares_of, squares, seen_at, placed}
 
-width : List ℕ → ℕ
-width rank = sum_by width_of rank
-
 -- one byte more before the first part
 width_onto_first : (b : ℕ) (parts : List (List ℕ)) → sum_by (sum_by width_of) (onto_first b parts) ≡ width_of b + sum_by (sum_by width_of) parts
 width_onto_first b [] = rw (sum_by-cons (sum_by width_of) (b ∷ []) [], sum_by-cons width_of b []) (omega arith)

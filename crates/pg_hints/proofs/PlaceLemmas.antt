@@ -66,9 +66,6 @@ alone line games game r h n has = (
   λ g. has.1 (subst (λ (x : List (List Move)). Contains x game) (sym (one_listing line games (game ∷ []) h g)) (Contains-head game [])),
 )
 
-pub none_first : (text : List ℕ) (game : List Move) (n : ℕ) → n ≤ 0 → ¬ IsGameAt text n game
-none_first text game n low h = let some : 0 < n = h.1.0 in omega arith
-
 same_line : (text : List ℕ) (n : ℕ) (a b : List ℕ) → IsLine text n a → IsLine text n b → a ≡ b
 same_line text n a b h g = (let e : Some a ≡ Some b = sym h.1 ∙ g.1 in cc)
 

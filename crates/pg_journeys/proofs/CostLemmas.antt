@@ -39,12 +39,6 @@ rows_next x quiet way most rows row i m e low here before = λ q l. elim (eqb_te
   | inr w ↦ (let ne : q ≢ i = w.1 in subst (λ y. IsCostRow x most (walker_of x quiet way q) y x.men.count) (sym (get_or-set_other rows i q row [] ne)) (before q (omega arith)))
 ]
 
--- who does not castle costs what he costs where none does
-pub same_row : (x : Side) (quiet : Bool) (way : Option Wing) (most : ℕ) (rows : List (List ℕ)) (i : ℕ) → i < x.men.count → counted x.terrain.color way (square_at x.men i) ≡ square_at x.men i →
-    AreCostRows x quiet None most rows x.men.count → IsCostRow x most (walker_of x quiet way i) (get_or rows i []) x.men.count
-same_row x quiet way most rows i low stays are =
-    subst (λ (s : ℕ). IsCostRow x most (record { square = square_at x.men i; runner = record { is_quiet = quiet; kind = kind_at x.men i; square = s } }) (get_or rows i []) x.men.count) (sym stays) (are i low)
-
 -- a row of the men of the diagram, and one with falls
 abbrev pub AreComes : Side → ℕ → Runner → List ℕ → ℕ → Type 0
 AreComes x most m row n = (j : ℕ) → j < n → IsCountTo x most j m (get_or row j 0)

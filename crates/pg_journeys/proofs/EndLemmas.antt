@@ -43,9 +43,6 @@ rings_as V W r same h = record {
   whole = λ e n k s sl w. (same (r.count - 1) k s).0 (h.whole e n k s sl ((same n k s).1 w));
 }
 
-pub rings_back : (V W : ℕ → Kind → ℕ → Type 0) (r : Rings) → ((n : ℕ) (k : Kind) (s : ℕ) → V n k s ↔ W n k s) → AreRings W r → AreRings V r
-rings_back V W r same h = rings_as W V r (λ n k s. ((same n k s).1, (same n k s).0)) h
-
 pub within_as : (V W : ℕ → Kind → ℕ → Type 0) (n : ℕ) (sets : List ℕ) → ((n : ℕ) (k : Kind) (s : ℕ) → V n k s ↔ W n k s) → AreWithin V n sets → AreWithin W n sets
 within_as V W n sets same h k s sl = (λ t. (same n k s).0 ((h k s sl).0 t), λ w. (h k s sl).1 ((same n k s).1 w))
 

@@ -1,5 +1,5 @@
 -- The first colour that has no way alive in a round. Leads to the contracts of `first_dead`, `dead_in_rounds` and `dead_color`.
-use Rattle.std.proofs.Common.{◌≡◌, ℕ, ◌≤◌, ◌↔◌, inl, inr, Option, Some, None, Bool, true, false, refl, sym, subst, arith, IsTrue, IfSome, IfNone, MatchOption}
+use Rattle.std.proofs.Common.{◌≡◌, ℕ, ◌≤◌, ◌↔◌, inl, inr, Option, Some, None, Bool, true, false, refl, sym, subst, arith, IsTrue, IfSome, MatchOption}
 use Rattle.std.proofs.lemmas.Bool.{cases_lt}
 use Rattle.pg_board.specs.declared.man.Color.{Color}
 use Rattle.pg_board.specs.declared.man.Color.TheVariants.{White, Black}
@@ -31,9 +31,6 @@ some_way f d p k c r is off = elim (dec_some_way (λ way. IsAlive f d p k c way)
 abbrev of_color : Color → FactSets → DeadColor
 of_color c f = record { color = c; facts = f }
 
-pub white_first : (f : FactSets) (d : Placement) (p : State) (k : ℕ) → IsDead (known f) d p k White → IsFirstBy f d p k (of_color White f)
-white_first f d p k dead = record { same = refl; dead = dead; white = λ e. absurd (cc) }
-
 pub black_first : (f : FactSets) (d : Placement) (p : State) (k : ℕ) (r : Bool) → IsTrue r ↔ IsDead (known f) d p k White → r ≡ false → IsDead (known f) d p k Black → IsFirstBy f d p k (of_color Black f)
 black_first f d p k r is off dead = record { same = refl; dead = dead; white = λ e. some_way (known f) d p k White r is off }
 
@@ -60,15 +57,6 @@ found_last d p k f None round both = last_alive d p k (known f) round (λ dead. 
 found_last d p k f (Some x) round first = first_is d p k 3 f x (omega arith) round first
 
 -- ---- where the bound asks for plans
-pub lost : (d : Placement) (p : State) (k : ℕ) (r : Bool) → IsTrue r ↔ HasWalls d p → r ≡ false → AsksForPlans d p → ¬ HasDeadColor d p k
-lost d p k r is off asks = absurd (is_not r is off asks.walls)
-
-pub lacking : (d : Placement) (p : State) (k : ℕ) → HasFewer d p → AsksForPlans d p → ¬ HasDeadColor d p k
-lacking d p k (c, less) asks = absurd (let enough : men c any_man d ≤ men c any_man p.board = asks.enough c in omega (arith, less))
-
-pub many : (d : Placement) (p : State) (k : ℕ) (r : Bool) → IsTrue r ↔ HasFew p → r ≡ false → AsksForPlans d p → ¬ HasDeadColor d p k
-many d p k r is off asks = absurd (is_not r is off asks.few)
-
 pub asked : (d : Placement) (p : State) (o : Option DeadColor) (w l f : Bool) → IsTrue w ↔ HasWalls d p → w ≡ true → IsTrue l ↔ HasFewer d p → l ≡ false → IsTrue f ↔ HasFew p → f ≡ true → IfSome o (λ x. AsksForPlans d p)
 asked d p None w l f ws on ls off fs all = tt
 asked d p (Some x) w l f ws on ls off fs all = record {
@@ -79,11 +67,3 @@ asked d p (Some x) w l f ws on ls off fs all = record {
   ];
   few = fs.0 all;
 }
-
-pub found_first : (d : Placement) (p : State) (k : ℕ) (o : Option DeadColor) → IsFound d p k o → IfSome o (λ x. IsFirstDead d p k x.color (known x.facts))
-found_first d p k None h = tt
-found_first d p k (Some x) h = h
-
-pub found_none : (d : Placement) (p : State) (k : ℕ) (o : Option DeadColor) → IsFound d p k o → IfNone o (AsksForPlans d p → ¬ HasDeadColor d p k)
-found_none d p k None h = λ asks. h
-found_none d p k (Some x) h = tt

@@ -1,5 +1,5 @@
 -- Fronts: what is joined, met and taken. Leads to the contracts of a search's steps.
-use Rattle.std.proofs.Common.{◌≡◌, ◌≢◌, ℕ, ◌+◌, ◌<◌, ◌≤◌, ◌⊎◌, inl, inr, Bool, true, false, not, ◌&&◌, ◌||◌, cond, List, length, set, get_or, refl, sym, ap, subst, arith, ◌∙◌}
+use Rattle.std.proofs.Common.{◌≡◌, ◌≢◌, ℕ, ◌<◌, ◌≤◌, ◌⊎◌, inl, inr, Bool, true, false, not, ◌&&◌, ◌||◌, cond, List, length, set, get_or, refl, sym, ap, subst, arith, ◌∙◌}
 use Rattle.std.proofs.lemmas.Bool.Decides.{eqb_tells}
 use Rattle.std.proofs.lemmas.List.{get_or-set_same, get_or-set_other, get_or_default}
 use Rattle.pg_board.specs.Bits.{has}
@@ -9,7 +9,7 @@ use Rattle.pg_board.specs.declared.man.Kind.TheVariants.{Pawn, Knight, Bishop, R
 use Rattle.pg_board.specs.Men.{number_of_kind, kind_eq}
 use Rattle.pg_board.specs.SquareSets.{IsFirstFrom, HasNoneFrom}
 use Rattle.pg_journeys.specs.inner.Counts.{of_kind}
-use Rattle.pg_journeys.specs.inner.Fronts.{IsJoined, is_met, is_due, is_next, OnSet, IsMeeting, AreTakenDue, NoneDue, IsAdvanced, HasAdvanced, IsUnchanged}
+use Rattle.pg_journeys.specs.inner.Fronts.{IsJoined, is_met, is_due, is_next, OnSet, IsMeeting, AreTakenDue, IsAdvanced, IsUnchanged}
 use Rattle.pg_journeys.specs.declared.fronts.Front.{Front}
 
 -- ---- tests
@@ -197,46 +197,3 @@ pub record AreAdvancedBelow (i : ℕ) (any : Bool) (old new : Front) : Type 0 wh
   pub done : (j : Kind) (t : ℕ) → number_of_kind j < i → t < 64 → IsAdvanced old new j t
   pub left : (j : Kind) (t : ℕ) → i ≤ number_of_kind j → IsUnchanged old new j t
   pub idle : any ≡ false → (j : Kind) (t : ℕ) → number_of_kind j < i → t < 64 → is_due new j t ≡ false
-
-pub advance_first : (a : Front) → AreAdvancedBelow 0 false a a
-advance_first a = record {
-  done = λ j t l _. absurd (omega arith);
-  left = λ j t _. record { met = refl; due = refl; next = refl };
-  idle = λ _ j t l _. absurd (omega arith);
-}
-
-advanced_as : (a b d : Front) (j : Kind) (t : ℕ) → IsUnchanged a b j t → IsAdvanced b d j t → IsAdvanced a d j t
-advanced_as a b d j t u v = record {
-  met = v.met ∙ (rw (u.met, u.next) refl);
-  due = v.due ∙ (rw (u.met, u.next) refl);
-  next = v.next;
-}
-
-unchanged_as : (a b d : Front) (j : Kind) (t : ℕ) → IsAdvanced a b j t → IsUnchanged b d j t → IsAdvanced a d j t
-unchanged_as a b d j t u v = record { met = v.met ∙ u.met; due = v.due ∙ u.due; next = v.next ∙ u.next }
-
-pub advance_next : (i : ℕ) (any some now : Bool) (a b d : Front) → AreAdvancedBelow i any a b →
-    ((j : Kind) (t : ℕ) → number_of_kind j ≡ i → t < 64 → IsAdvanced b d j t) →
-    ((j : Kind) (t : ℕ) → number_of_kind j ≢ i → IsUnchanged b d j t) →
-    (some ≡ false → (j : Kind) (t : ℕ) → number_of_kind j ≡ i → t < 64 → is_due d j t ≡ false) →
-    (now ≡ false → (any ≡ false) × (some ≡ false)) → AreAdvancedBelow (i + 1) now a d
-advance_next i any some now a b d before here others idle both = record {
-  done = λ j t l low. elim (eqb_tells (number_of_kind j) i) [
-    | inl w ↦ advanced_as a b d j t (before.left j t (omega (arith, w.1))) (here j t w.1 low)
-    | inr w ↦ unchanged_as a b d j t (before.done j t (let ne : number_of_kind j ≢ i = w.1 in omega arith) low) (others j t w.1)
-  ];
-  left = λ j t l.
-      let u = before.left j t (omega arith) in
-      let v = others j t (omega arith) in
-      record { met = v.met ∙ u.met; due = v.due ∙ u.due; next = v.next ∙ u.next };
-  idle = λ off j t l low. elim (eqb_tells (number_of_kind j) i) [
-    | inl w ↦ idle (both off).1 j t w.1 low
-    | inr w ↦ (others j t w.1).due ∙ before.idle (both off).0 j t (let ne : number_of_kind j ≢ i = w.1 in omega arith) low
-  ];
-}
-
-pub advance_all : (i : ℕ) (any : Bool) (a b : Front) → 6 ≤ i → AreAdvancedBelow i any a b → HasAdvanced a b
-advance_all i any a b l whole j t low = whole.done j t (omega (arith, low_kind j)) low
-
-pub advance_idle : (i : ℕ) (any : Bool) (a b : Front) → 6 ≤ i → AreAdvancedBelow i any a b → any ≡ false → NoneDue b
-advance_idle i any a b l whole off j t low = whole.idle off j t (omega (arith, low_kind j)) low

@@ -1,8 +1,6 @@
 -- What is known beforehand. Leads to the contracts of `same_men`, `add_color`, `known_for` and `known_steps`.
-use Rattle.std.proofs.Common.{◌≡◌, ℕ, ◌+◌, ◌<◌, ◌≤◌, inl, inr, true, false, sym, subst, arith}
-use Rattle.std.proofs.Math.Logic.{∥∥₁_elim, ∥∥₁_map}
-use Rattle.std.specs.Coded.{le_prop}
-use Rattle.std.proofs.lemmas.Bool.{cases_lt}
+use Rattle.std.proofs.Common.{◌≡◌, ℕ, ◌<◌, ◌≤◌, true, false, subst, arith}
+use Rattle.std.proofs.Math.Logic.{∥∥₁_map}
 use Rattle.pg_journeys.specs.inner.Grounds.{HasSteps}
 use Rattle.pg_journeys.specs.inner.Sides.{square_at, kind_at, AreAims, AreSameMen, IsLike}
 use Rattle.pg_journeys.specs.declared.known_paths.KnownPaths.{KnownPaths}
@@ -15,25 +13,10 @@ pub record AreSameTo (a b : Men) (n : ℕ) : Type 0 where
   pub squares : (i : ℕ) → i < n → square_at a i ≡ square_at b i
   pub kinds : (i : ℕ) → i < n → kind_at a i ≡ kind_at b i
 
-pub same_next : (a b : Men) (n m : ℕ) → m ≡ n + 1 → square_at a n ≡ square_at b n → kind_at a n ≡ kind_at b n → AreSameTo a b n → AreSameTo a b m
-same_next a b n m e here kind before = record {
-  squares = λ i l. elim (cases_lt i n) [
-    | inl less ↦ before.squares i less
-    | inr more ↦ (let z : i ≡ n = omega arith in subst (λ (j : ℕ). square_at a j ≡ square_at b j) (sym z) here)
-  ];
-  kinds = λ i l. elim (cases_lt i n) [
-    | inl less ↦ before.kinds i less
-    | inr more ↦ (let z : i ≡ n = omega arith in subst (λ j. kind_at a j ≡ kind_at b j) (sym z) kind)
-  ];
-}
-
 pub same_all : (a b : Men) (n : ℕ) → a.count ≡ b.count → a.count ≤ n → AreSameTo a b n → AreSameMen a b
 same_all a b n count all are = record { count = count; squares = λ i l. are.squares i (omega arith); kinds = λ i l. are.kinds i (omega arith) }
 
 -- ---- what the type of known paths says
-pub known_few : (k : KnownPaths) → k.goals.count ≤ 16
-known_few k = ∥∥₁_elim k.made le_prop (λ w. w.few)
-
 pub known_aims : (k : KnownPaths) (x : Side) → IsLike x k.terrain k.goals → AreAims x false k.moves × AreAims x true k.quiet
 known_aims k x like = (aims_known x false k.moves (∥∥₁_map k.made (λ w. w.moves x like)), aims_known x true k.quiet (∥∥₁_map k.made (λ w. w.quiet x like)))
 

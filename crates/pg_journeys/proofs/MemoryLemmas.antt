@@ -14,9 +14,7 @@ use Rattle.pg_board.specs.declared.man.Man.{Man}
 use Rattle.pg_board.specs.Men.{other, is_of, color_eq}
 use Rattle.pg_board.specs.Placement.{Placement, get}
 use Rattle.pg_board.specs.SquareSets.{Meet}
-use Rattle.pg_position.specs.declared.rights.Rights.{Rights}
 use Rattle.pg_position.specs.declared.rights.Wing.{Wing}
-use Rattle.pg_position.specs.declared.rights.Wing.TheVariants.{KingSide, QueenSide}
 use Rattle.pg_position.specs.Position.{Stands, holds}
 use Rattle.pg_position.specs.Squares.{ahead}
 use Rattle.pg_captures.specs.Owed.{plies_left, victims}
@@ -67,11 +65,6 @@ pub same_own_men : (a b x y : Placement) (c : Color) (mine theirs own diff : ℕ
 same_own_men a b x y c mine theirs own diff m ex ey here there all same meets none =
     subst (λ (z : Placement). (k : Kind) (s : ℕ) → s < 64 → Stands z c k s ↔ Stands b c k s) ex
     (subst (λ (z : Placement). (k : Kind) (s : ℕ) → s < 64 → Stands x c k s ↔ Stands z c k s) ey (stand_alike x y c mine theirs own diff m here there all same meets (is_off m none)))
-
--- ---- the same rights
-pub both_wings : (a b : Rights) (c : Color) → holds a c KingSide ≡ holds b c KingSide → holds a c QueenSide ≡ holds b c QueenSide → (w : Wing) → holds a c w ≡ holds b c w
-both_wings a b c king queen KingSide = king
-both_wings a b c king queen QueenSide = queen
 
 -- ---- the same pawn that has just passed a square
 -- r is the square that a pawn of the colour has just passed, if captures of the other colour may land there

@@ -1,16 +1,14 @@
 -- What plans show without the men who rest is what they show with them; and who rests, by sets of squares.
-use Rattle.std.proofs.Common.{◌≡◌, ℕ, ◌+◌, ◌<◌, ◌↔◌, ◌⊎◌, inl, inr, Option, Some, Bool, true, false, not, ◌&&◌, refl, sym, ap, subst, arith, ◌∙◌, [], List}
+use Rattle.std.proofs.Common.{◌≡◌, ℕ, ◌+◌, ◌<◌, ◌↔◌, ◌⊎◌, inl, inr, Option, Bool, true, false, not, ◌&&◌, refl, sym, ap, subst, arith, ◌∙◌, [], List}
 use Rattle.std.proofs.Math.Bool.{and-true, and-false}
 use Rattle.pg_board.specs.Bits.{has}
 use Rattle.pg_board.specs.declared.man.Color.{Color}
 use Rattle.pg_board.specs.declared.man.Color.TheVariants.{White, Black}
 use Rattle.pg_board.specs.declared.man.Kind.{Kind}
-use Rattle.pg_board.specs.Men.{other}
 use Rattle.pg_board.specs.Placement.{Placement, get}
 use Rattle.pg_position.specs.declared.rights.Wing.{Wing}
 use Rattle.pg_position.specs.declared.state.State.{State}
 use Rattle.pg_position.specs.Position.{Stands}
-use Rattle.pg_position.specs.Squares.{ahead}
 use Rattle.pg_captures.specs.Owed.{plies_left, victims}
 use Rattle.pg_journeys.specs.Facts.{Facts}
 use Rattle.pg_journeys.specs.Known.{known}
@@ -190,14 +188,3 @@ resting_of_sets f d p differing passed same quiet spared z one two three four di
     let v : (has f.still q ≡ true) × (has differing q ≡ false) = less_parts same f.still differing q one low y.0 in
     (v.0, v.1, y.1, x.1, w.1)))
     differs passes
-
-other_again : (c : Color) → other (other c) ≡ c
-other_again White = refl
-other_again Black = refl
-
--- a set that has the square of the pawn that has just passed
-pub passed_by : (p : State) (passed : ℕ) → ((s u : ℕ) → s < 64 → p.passed ≡ Some u → s ≡ ahead (other p.side) 1 u → has passed s ≡ true) →
-    (c : Color) (s u : ℕ) → s < 64 → HasPassed p c s u → has passed s ≡ true
-passed_by p passed holds c s u low (side, at, there) =
-    let mover : c ≡ other p.side = sym (other_again c) ∙ ap other (sym side) in
-    holds s u low at (there ∙ ap (λ (x : Color). ahead x 1 u) mover)

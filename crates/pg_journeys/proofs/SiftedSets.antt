@@ -1,67 +1,16 @@
 -- Sets that loops make: the squares of a set that pass a test, and what loops add to a set.
-use Rattle.std.proofs.Common.{◌≡◌, ℕ, ◌+◌, ◌<◌, ◌⊎◌, inl, inr, Bool, true, false, cond, not, ◌&&◌, ◌||◌, refl, sym, ap, subst, arith, ◌∙◌}
-use Rattle.std.proofs.lemmas.Bool.{or_left, or_right, or_cases, and_from, eq-eqb, cases_Bool, cases_eq, cases_lt}
+use Rattle.std.proofs.Common.{◌≡◌, ℕ, ◌+◌, ◌<◌, ◌⊎◌, inl, inr, Bool, true, false, cond, ◌||◌, sym, ap, subst, arith, ◌∙◌}
+use Rattle.std.proofs.lemmas.Bool.{or_left, or_right, or_cases, eq-eqb, cases_eq, cases_lt}
 use Rattle.pg_board.specs.Bits.{has}
 use Rattle.pg_board.specs.SquareSets.{IsSetOf, HasNoneFrom, IsFirstFrom}
 use Rattle.pg_travel.proofs.TakenSets.{IsWithout, other_than}
 use Rattle.pg_journeys.specs.inner.Grounds.{LedTo}
-
--- of a set, those left are still to be looked at, and those found are the ones with P among the others
-pub record IsSifted (P : ℕ → Type 0) (set left found : ℕ) : Type 0 where
-  pub part : (q : ℕ) → q < 64 → has left q ≡ true → has set q ≡ true
-  pub good : (q : ℕ) → q < 64 → has found q ≡ true → (has set q ≡ true) × P q
-  pub all : (q : ℕ) → q < 64 → has set q ≡ true → P q → (has left q ≡ true) ⊎ (has found q ≡ true)
-
-pub sift_first : (P : ℕ → Type 0) (set found : ℕ) → HasNoneFrom found 0 → IsSifted P set set found
-sift_first P set found none = record {
-  part = λ q l h. h;
-  good = λ q l h. absurd (let off : has found q ≡ false = none q (omega arith) l in cc);
-  all = λ q l h p. inl h;
-}
 
 was_left : (old new o q : ℕ) → IsWithout old new o → q < 64 → has new q ≡ true → has old q ≡ true
 was_left old new o q rest l h = elim (cases_eq q o) [
   | inl e ↦ absurd (let off : has new q ≡ false = rest q l ∙ ap (λ (x : Bool). cond x false (has old q)) (eq-eqb q o e) in cc)
   | inr ne ↦ sym (other_than old new o q rest l ne) ∙ h
 ]
-
-pub sift_take : (P : ℕ → Type 0) (set old new o found one more : ℕ) → IsFirstFrom old 0 o → IsWithout old new o → P o → IsSetOf one (λ q. q ≡ o) → ((q : ℕ) → has more q ≡ (has found q || has one q)) → IsSifted P set old found → IsSifted P set new more
-sift_take P set old new o found one more first rest p single joined h = record {
-  part = λ q l t. h.part q l (was_left old new o q rest l t);
-  good = λ q l t. elim (or_cases (has found q) (has one q) (sym (joined q) ∙ t)) [
-    | inl a ↦ h.good q l a
-    | inr a ↦ (let e : o ≡ q = sym ((single q l).0 a) in subst (λ (x : ℕ). (has set x ≡ true) × P x) e (h.part o first.on_board first.member, p))
-  ];
-  all = λ q l on t. elim (h.all q l on t) [
-    | inl a ↦ elim (cases_eq q o) [
-      | inl e ↦ inr (joined q ∙ or_right (has found q) (has one q) ((single q l).1 e))
-      | inr ne ↦ inl (other_than old new o q rest l ne ∙ a)
-    ]
-    | inr a ↦ inr (joined q ∙ or_left (has found q) (has one q) a)
-  ];
-}
-
-pub sift_skip : (P : ℕ → Type 0) (set old new o found : ℕ) → IsWithout old new o → (P o → ⊥) → IsSifted P set old found → IsSifted P set new found
-sift_skip P set old new o found rest off h = record {
-  part = λ q l t. h.part q l (was_left old new o q rest l t);
-  good = h.good;
-  all = λ q l on t. elim (h.all q l on t) [
-    | inl a ↦ elim (cases_eq q o) [
-      | inl e ↦ absurd (off (subst P e t))
-      | inr ne ↦ inl (other_than old new o q rest l ne ∙ a)
-    ]
-    | inr a ↦ inr a
-  ];
-}
-
-pub sift_all : (P : ℕ → Type 0) (set left found : ℕ) → HasNoneFrom left 0 → IsSifted P set left found → IsSetOf found (λ q. (has set q ≡ true) × P q)
-sift_all P set left found none h q l = (
-  h.good q l,
-  λ t. elim (h.all q l t.0 t.1) [
-    | inl a ↦ absurd (let off : has left q ≡ false = none q (omega arith) l in cc)
-    | inr a ↦ a
-  ],
-)
 
 -- ---- what the squares of a set lead to, gathered square by square: from those left nothing was gathered yet
 pub record IsGathered (P : ℕ → ℕ → Type 0) (set left found : ℕ) : Type 0 where
@@ -149,26 +98,6 @@ join_full P old n all full h q l = (
     ]
   ],
 )
-
--- a set was looked at but for what is in all already, and what was found is added
-pub found_more : (Q : ℕ → Type 0) (set all rest found more : ℕ) → ((q : ℕ) → q < 64 → has rest q ≡ (has set q && not (has all q))) → IsSetOf found (λ q. (has rest q ≡ true) × Q q) → ((q : ℕ) → has more q ≡ (has all q || has found q)) → IsSetOf more (λ q. (has all q ≡ true) ⊎ ((has set q ≡ true) × Q q))
-found_more Q set all rest found more is_rest is_found is_more q l = (
-  λ t. elim (or_cases (has all q) (has found q) (sym (is_more q) ∙ t)) [
-    | inl a ↦ inl a
-    | inr a ↦ inr (let w : (has rest q ≡ true) × Q q = (is_found q l).0 a in (first (has set q) (not (has all q)) (sym (is_rest q l) ∙ w.0), w.1))
-  ],
-  λ t. is_more q ∙ elim t [
-    | inl a ↦ or_left (has all q) (has found q) a
-    | inr w ↦ elim (cases_Bool (has all q)) [
-      | inl a ↦ or_left (has all q) (has found q) a
-      | inr off ↦ or_right (has all q) (has found q) ((is_found q l).1 (is_rest q l ∙ and_from (has set q) (not (has all q)) w.0 (ap not off), w.1))
-    ]
-  ],
-)
-  where
-    first : (a b : Bool) → (a && b) ≡ true → a ≡ true
-    first true b e = refl
-    first false b e = e
 
 -- one square more
 pub one_more : (o all one more : ℕ) → IsSetOf one (λ q. q ≡ o) → ((q : ℕ) → has more q ≡ (has all q || has one q)) → IsSetOf more (λ q. (has all q ≡ true) ⊎ (q ≡ o))

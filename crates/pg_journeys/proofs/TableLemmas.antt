@@ -1,5 +1,5 @@
 -- Boards with a man on each still square, and tables of the steps that go by them. Leads to the contract of `steps_table`.
-use Rattle.std.proofs.Common.{arith, ◌≡◌, ◌≢◌, ◌↔◌, ℕ, ◌+◌, ◌*◌, ◌<◌, ◌≤◌, ◌⊎◌, inl, inr, IsTrue, Bool, true, false, not, ◌&&◌, ◌||◌, Option, Some, None, List, length, get_or, set, replicate, refl, sym, ap, subst, ◌∙◌}
+use Rattle.std.proofs.Common.{arith, ◌≡◌, ◌≢◌, ◌↔◌, ℕ, ◌+◌, ◌*◌, ◌<◌, ◌≤◌, ◌⊎◌, inl, inr, IsTrue, Bool, true, false, not, ◌&&◌, ◌||◌, None, List, length, get_or, set, replicate, refl, sym, ap, subst, ◌∙◌}
 use Rattle.std.proofs.lemmas.Bool.Decides.{eqb_tells, leb_tells}
 use Rattle.std.proofs.lemmas.List.{get_or-set_same, get_or-set_other, get_or-replicate, get_or_past, length-replicate}
 use Rattle.pg_board.specs.declared.man.Color.{Color}
@@ -10,7 +10,7 @@ use Rattle.pg_board.specs.declared.man.Man.{Man}
 use Rattle.pg_board.specs.Bits.{has, has-none}
 use Rattle.pg_board.specs.Men.{is_held, number_of_kind, kind_eq, man}
 use Rattle.pg_board.specs.Placement.{Placement, get, put, empty}
-use Rattle.pg_board.specs.SquareSets.{IsSetOf, HasNoneFrom, IsFirstFrom}
+use Rattle.pg_board.specs.SquareSets.{IsSetOf, IsFirstFrom}
 use Rattle.pg_board.specs.lemmas.Placements.{get-empty, get-put_same, get-put_other}
 use Rattle.pg_board.proofs.SetLemmas.{and_true, set_like, set_of_union}
 use Rattle.pg_position.specs.Attack.{IsClear, Reaches}
@@ -64,30 +64,12 @@ blocking_next set old new o b m h is rest = record {
 abbrev pub HasMenOn : ℕ → Placement → Type 0
 HasMenOn set b = (s : ℕ) → s < 64 → (get b s ≡ None) ↔ (has set s ≡ false)
 
-pub blocking_all : (set left : ℕ) (b : Placement) → IsBlocking set left b → HasNoneFrom left 0 → HasMenOn set b
-blocking_all set left b h none s l = by_cell (get b s) (has set s) (h.held s l ∙ ap (λ (x : Bool). has set s && not x) (none s (omega arith) l) ∙ plain (has set s))
-  where
-    plain : (x : Bool) → (x && not false) ≡ x
-    plain true = refl
-    plain false = refl
-
-    by_cell : (o : Option Man) (x : Bool) → is_held o ≡ x → (o ≡ None) ↔ (x ≡ false)
-    by_cell None x e = (λ _. sym e, λ _. refl)
-    by_cell (Some m) x e = (λ f. absurd (cc), λ f. absurd (apart x (sym e) f))
-
 -- ---- the table
 -- the squares that are left are free, and the steps from the other free squares are written
 pub record IsFilling (b : Placement) (free : ℕ) (k : Kind) (left : ℕ) (old new : List ℕ) : Type 0 where
   pub part : (r : ℕ) → r < 64 → has left r ≡ true → has free r ≡ true
   pub filled : (r : ℕ) → r < 64 → has free r ≡ true → has left r ≡ false → IsSetOf (get_or new (number_of_kind k * 64 + r) 0) (GoesOn b free k r)
   pub kept : (i : ℕ) → ((r : ℕ) → r < 64 → has free r ≡ true → i ≢ number_of_kind k * 64 + r) → get_or new i 0 ≡ get_or old i 0
-
-pub filling_first : (b : Placement) (free : ℕ) (k : Kind) (t : List ℕ) → IsFilling b free k free t t
-filling_first b free k t = record {
-  part = λ r l e. e;
-  filled = λ r l e f. absurd (apart (has free r) e f);
-  kept = λ i ne. refl;
-}
 
 -- what a man on a free square may step to
 pub steps_from : (b : Placement) (free : ℕ) (k : Kind) (m : Man) (r attacked n : ℕ) → m ≡ man White k → has free r ≡ true → IsSetOf attacked (Reaches b m.color m.kind r) → ((q : ℕ) → has n q ≡ has attacked q && has free q) → IsSetOf n (GoesOn b free k r)
@@ -115,12 +97,6 @@ filling_next b free k old new o place n first now long h is rest e steps = recor
         subst (λ (x : ℕ). IsSetOf x (GoesOn b free k r)) (sym (get_or-set_other now place (number_of_kind k * 64 + r) n 0 away)) (h.filled r l vacant (sym (other_than old new o r rest l ne) ∙ off)))
   ];
   kept = λ i ne. get_or-set_other now place i n 0 (λ f. ne o is.on_board (h.part o is.on_board is.member) (f ∙ e)) ∙ h.kept i ne;
-}
-
-pub filling_all : (b : Placement) (free : ℕ) (k : Kind) (left : ℕ) (old new : List ℕ) → IsFilling b free k left old new → HasNoneFrom left 0 → IsFilled b free k old new
-filling_all b free k left old new h none = record {
-  filled = λ r l vacant. h.filled r l vacant (none r (omega arith) l);
-  kept = h.kept;
 }
 
 -- the steps of the kinds that pass a test are written, and nothing is of the others

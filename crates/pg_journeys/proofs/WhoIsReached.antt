@@ -71,9 +71,6 @@ is_so a = (λ t. a, λ h. refl)
 pub is_not_so : {A : Type 0} → ¬ A → IsTrue false ↔ A
 is_not_so out = (λ t. absurd (cc), λ h. absurd (out h))
 
-pub closed_way : (x : Side) (way : Option Wing) (e : ℕ) (r : Bool) → IsTrue r ↔ IsWayUnder (facts_of x) x.position x.terrain.color way → r ≡ false → IsTrue false ↔ IsReachedIn x way e
-closed_way x way e r is off = is_not_so (λ h. is_not r is off h.0)
-
 -- ---- all ways
 pub third_reached : (x : Side) (e : ℕ) (a b c : Bool) → IsTrue a ↔ IsReachedIn x None e → a ≡ false → IsTrue b ↔ IsReachedIn x (Some KingSide) e → b ≡ false → IsTrue c ↔ IsReachedIn x (Some QueenSide) e → IsTrue c ↔ IsReachedOf x e
 third_reached x e a b c is_a off_a is_b off_b is_c = (λ h. (Some QueenSide, is_c.0 h), λ h. back h.0 h.1)

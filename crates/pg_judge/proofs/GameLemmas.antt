@@ -1,7 +1,6 @@
 -- What two games, another one and a shorter one say of a problem. Leads to the headline of `judge`.
-use Rattle.std.proofs.Common.{◌≡◌, ◌≢◌, ℕ, ◌<◌, ◌≤◌, List, [], ◌∷◌, ◌++◌, length, ap, refl, sym, subst, arith, ◌∙◌}
+use Rattle.std.proofs.Common.{◌≡◌, ℕ, ◌<◌, ◌≤◌, List, [], ◌∷◌, ◌++◌, length, ap, sym, subst, arith, ◌∙◌}
 use Rattle.std.specs.Prelude.{Some, slice_get}
-use Rattle.std.proofs.lemmas.List.{nil_from_length}
 use Rattle.std.proofs.lemmas.Option.{get_or_from_slice_get, slice_get_within}
 use Rattle.pg_board.specs.Placement.{Placement}
 use Rattle.pg_position.specs.declared.moves.Move.{Move}
@@ -15,9 +14,8 @@ use Rattle.pg_checker.specs.Listed.{IsListFault}
 use Rattle.pg_checker.specs.declared.fault.ListFault.{ListFault}
 use Rattle.pg_checker.specs.declared.fault.ListFault.TheVariants.{WrongLength, NotReaching}
 use Rattle.pg_judge.specs.Ruling.{IsFinding, IsGiven, IsSaidSound, IsSound}
-use Rattle.pg_judge.specs.declared.entry.BadMove.{BadMove}
 use Rattle.pg_judge.specs.declared.entry.Entry.{Entry}
-use Rattle.pg_judge.specs.declared.given.Given.TheVariants.{StopsAt, OfPlies, EndsElsewhere}
+use Rattle.pg_judge.specs.declared.given.Given.TheVariants.{OfPlies, EndsElsewhere}
 use Rattle.pg_judge.specs.declared.ruling.Finding.{Finding}
 use Rattle.pg_judge.specs.declared.ruling.Finding.TheVariants.{Settled, NotSound, NotSettled}
 
@@ -61,16 +59,6 @@ sound_means d n author (NotSound e) h said = absurd said
 sound_means d n author (NotSettled known) h said = absurd said
 
 -- ---- the author's games
-pub some_games : (games : List (List Move)) (n : ℕ) → n ≡ length games → n ≢ 0 → games ≢ []
-some_games games n is some e = some (is ∙ ap (λ (x : List (List Move)). length x) e)
-
-pub no_games : (games : List (List Move)) (n : ℕ) → n ≡ length games → n ≡ 0 → games ≡ []
-no_games games n is none = nil_from_length games (sym is ∙ none)
-
--- a word of them is no move
-pub stops_at : (entry : Entry) (bad : BadMove) → entry.bad ≡ Some bad → IsGiven entry (StopsAt bad.ply)
-stops_at entry bad is = (bad, is, refl)
-
 -- the game that is at fault is one of the list
 pub at_fault : (d : Placement) (n : ℕ) (games : List (List Move)) (fault : ListFault) (i : ℕ) → fault ≡ WrongLength i → IsListFault d n games fault
     → i < length games

@@ -1,6 +1,6 @@
 -- The parts of a row. Leads to the contract of `write_row`.
 use Rattle.std.proofs.Common.{◌≡◌, ℕ, ◌+◌, ◌≤◌, List, [], ◌∷◌, ◌++◌, Option, Some, length, refl, sym, ap, subst, arith, ◌∙◌}
-use Rattle.std.specs.Prelude.{codes, decimal, slice_get, unwrap_or}
+use Rattle.std.specs.Prelude.{codes, decimal}
 use Rattle.std.specs.Io.KnownBytes.{Appends}
 use Rattle.std.proofs.KnownBytes.{Appends-trans}
 use Rattle.std.proofs.lemmas.List.{length-append, append-nil, nil_from_length, append_assoc}
@@ -16,7 +16,7 @@ use Rattle.pg_texts.specs.Movetext.{AddsLongest, IsLongestGame, IsMovetext}
 use Rattle.pg_cooks.specs.Standing.{IsKnownText}
 use Rattle.pg_judge.specs.Findings.{IsBeside}
 use Rattle.pg_judge.specs.Ruling.{IsFinding, IsGiven}
-use Rattle.pg_judge.specs.Rows.{ArePair, AreShown, IsDetail, IsEvidenceText, IsNth, IsOther, IsRowOf, IsSecond, IsTold, IsWritable, IsWritten, below_text, cooks_text, head_text}
+use Rattle.pg_judge.specs.Rows.{ArePair, AreShown, IsDetail, IsNth, IsOther, IsRowOf, IsSecond, IsTold, IsWritable, IsWritten, below_text, cooks_text, head_text}
 use Rattle.pg_judge.specs.declared.entry.Entry.{Entry}
 use Rattle.pg_judge.specs.declared.given.Given.{Given}
 use Rattle.pg_judge.specs.declared.old.Old.{Old}
@@ -38,10 +38,6 @@ longest_is ms game l h =
 pub whole : (ms : List Move) (a b : Option (List ℕ)) → IsFromArray ms → AddsLongest ms a b → AddsSome (IsMovetext ms) a b
 whole ms a b h (game, long, adds) = subst (λ (x : List Move). AddsSome (IsMovetext x) a b) (longest_is ms game long h) adds
 
-pub nth : (games : List (List Move)) (i : ℕ) (g : List Move) (a b : Option (List ℕ)) → slice_get games i ≡ Some g → AddsSome (IsMovetext g) a b
-    → AddsSome (IsNth games i) a b
-nth games i g a b at (text, is, grows) = (text, (g, at, is), grows)
-
 pub second : (games : List (List Move)) (a b c : Option (List ℕ)) → AddsSome (IsNth games 1) a b → Appends b c (pair_text (codes "; they part") games (codes "")) → AddsSome (IsSecond games) a c
 second games a b c (y, is, first) more = (
   y ++ pair_text (codes "; they part") games (codes ""),
@@ -58,17 +54,6 @@ pair games a b c e (x, is, first) mark (y, has, second) = (
 )
 
 -- ---- lists
-pub none_shown : (words : List ℕ) (games : List (List Move)) (a b : Option (List ℕ)) → length games ≡ 0 → Appends a b (codes "-") → AddsSome (AreShown words games) a b
-none_shown words [] a b e grows = (codes "-", refl, grows)
-none_shown words (g ∷ games) a b e grows = absurd (omega (arith, e))
-
-pub one_shown : (words : List ℕ) (games : List (List Move)) (a b : Option (List ℕ)) → length games ≡ 1 → AddsSome (IsNth games 0) a b → AddsSome (AreShown words games) a b
-one_shown words [] a b e h = absurd (omega (arith, e))
-one_shown words (g ∷ []) a b e (text, (h, at, is), grows) =
-    let same : h ≡ g = ap (λ (o : Option (List Move)). unwrap_or o g) (sym at) in
-    (text, subst (λ (x : List Move). IsMovetext x text) same is, grows)
-one_shown words (x ∷ y ∷ more) a b e h = absurd (omega (arith, e))
-
 pub more_shown : (words : List ℕ) (games : List (List Move)) (n : ℕ) (a b c : Option (List ℕ)) → n ≡ length games → 2 ≤ length games
     → Appends a b (decimal n ++ words) → AddsSome (ArePair games) b c → AddsSome (AreShown words games) a c
 more_shown words [] n a b c is many first h = absurd (omega (arith, many))
@@ -84,10 +69,6 @@ more_shown words (x ∷ y ∷ more) n a b c is many first (both, are, second) =
 -- ---- evidence
 pub told : (label : List ℕ) (game : List Move) (a b c : Option (List ℕ)) → Appends a b label → AddsSome (IsMovetext game) b c → AddsSome (IsTold label game) a c
 told label game a b c first (moves, is, second) = (label ++ moves, (moves, is, refl), Appends-trans a b c label moves first second)
-
-pub games_text : (author : List (List Move)) (e : Evidence) (list : List (List Move)) (a b : Option (List ℕ)) → e ≡ Several list → AddsSome (AreShown (codes " games met: ") list) a b
-    → AddsSome (IsEvidenceText author e) a b
-games_text author e list a b is h = subst (λ (x : Evidence). AddsSome (IsEvidenceText author x) a b) (sym is) h
 
 -- another game, and where it parts from the first of the author's
 pub other : (author : List (List Move)) (game : List Move) (a b c : Option (List ℕ)) → AddsSome (IsTold (codes "another game: ") game) a b → Appends b c (apart_text (codes "; they part") author game (codes ""))

@@ -16,7 +16,6 @@ pub mod OnlyLemmas
 pub mod PinLemmas
 pub mod LeafLemmas
 pub mod PairLemmas
-pub mod GameLemmas
 pub mod CountLemmas
 pub mod BareLemmas
 pub mod KingLemmas

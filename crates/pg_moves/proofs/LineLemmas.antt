@@ -1,7 +1,7 @@
 -- Squares between others.
 use Rattle.std.proofs.Common.{◌≡◌, ℕ, ◌+◌, ◌-◌, inl, inr, sym, arith, ◌∙◌}
 use Rattle.pg_board.specs.declared.man.Color.{Color}
-use Rattle.pg_board.specs.declared.man.Kind.TheVariants.{Bishop, Rook, Queen}
+use Rattle.pg_board.specs.declared.man.Kind.TheVariants.{Bishop, Rook}
 use Rattle.pg_board.specs.Squares.{file, rank}
 use Rattle.pg_position.specs.Geometry.{apart, OnOneDiagonal, InPattern, IsWithin, IsBetween}
 
@@ -40,20 +40,6 @@ diagonal_back x r h wf wr a b =
 
     both : (a b c d : ℕ) → a ≡ b → c ≡ d → a - c ≡ b - d
     both a b c d e f = omega arith
-
--- the end of a line sees each square within it along a queen's line
-pub seen_back : (c : Color) (x r h : ℕ) → IsBetween x r h → InPattern c Queen h r
-unfolding IsBetween InPattern
-seen_back c x r h (n, m, wf, wr, z) = (
-  λ e. m (sym e),
-  elim z [
-    | inl d ↦ elim d [
-      | inl e ↦ inl (inl (sym (line_same (file x) (file r) (file h) wf e).1))
-      | inr e ↦ inl (inr (sym (line_same (rank x) (rank r) (rank h) wr e).1))
-    ]
-    | inr (a, b) ↦ inr (diagonal_back x r h wf wr a b)
-  ],
-)
 
 -- a rook at the end of a line sees each square within it, and so does a bishop
 pub rook_within : (c : Color) (x r h : ℕ) → InPattern c Rook h x → IsBetween x r h → InPattern c Rook h r

@@ -85,10 +85,6 @@ pub place_at : (n : ℕ) → place (move_at n) ≡ n
 unfolding move_at
 place_at n = let r : promotion_number (promotion_of (n % 7)) ≡ n % 7 = number_back (n % 7) (omega arith) in omega arith
 
-pub at_on_board : (n : ℕ) → n < 28672 → IsOnBoard (move_at n)
-unfolding move_at
-at_on_board n h = (omega arith, omega arith)
-
 pub place_low : (m : Move) → IsOnBoard m → place m < 28672
 place_low m h = let r : promotion_number m.promotion < 7 = promotion_low m.promotion in let a : m.from < 64 = h.0 in let b : m.to < 64 = h.1 in omega arith
 

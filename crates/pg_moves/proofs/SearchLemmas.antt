@@ -1,5 +1,5 @@
 -- The steps of a search for the next legal move.
-use Rattle.std.proofs.Common.{◌≡◌, ◌≢◌, ℕ, suc, ◌+◌, ◌<◌, ◌≤◌, ◌⊎◌, inl, inr, Option, Some, None, MatchOption, List, Bool, true, false, IsTrue, max, refl, sym, ap, subst, arith, ◌∙◌}
+use Rattle.std.proofs.Common.{◌≡◌, ◌≢◌, ℕ, suc, ◌+◌, ◌<◌, ◌≤◌, ◌⊎◌, inl, inr, Option, Some, None, MatchOption, Bool, true, false, IsTrue, refl, sym, ap, subst, arith, ◌∙◌}
 use Rattle.std.specs.declared.cmp.Ordering.TheVariants.{Less, Equal}
 use Rattle.std.proofs.lemmas.Cmp.{tied_itself}
 use Rattle.std.proofs.lemmas.Bool.Decides.{eqb_tells, leb_tells}
@@ -23,7 +23,7 @@ use Rattle.pg_position.proofs.StepLemmas.{same_kind}
 use Rattle.pg_board.specs.SquareSets.{HasNoneFrom, IsFirstFrom}
 use Rattle.pg_moves.proofs.TargetLemmas.{own_set}
 use Rattle.pg_moves.specs.Moves.{promotion_number, move_cmp, IsPast, IsNext, IsLast}
-use Rattle.pg_moves.specs.inner.Places.{place_of, start_after, place, NoneFrom, IsFirstMove, IsListBelow}
+use Rattle.pg_moves.specs.inner.Places.{place_of, start_after, place, NoneFrom, IsFirstMove}
 use Rattle.pg_moves.specs.Targets.{IsOwn, Covers}
 use Rattle.pg_moves.proofs.PlaceLemmas.{move_cmp_total, promotion_low, place_less, same_place, place_low}
 use Rattle.pg_moves.proofs.ListLemmas.{on_board}
@@ -55,9 +55,6 @@ first_block p low n k mid high m a f le g up = record {
   to_high = (let h : place m < mid = f.to_high in omega arith);
   first = none_block p low n k (place m) a f.first g;
 }
-
-pub first_here : (p : State) (low n high : ℕ) (m : Move) → NoneFrom p low n → IsLegal p m → place m ≡ n → low ≤ n → n < high → IsFirstMove p low high m
-first_here p low n high m a l e le up = record { legal = l; from_low = omega arith; to_high = omega arith; first = subst (λ k. NoneFrom p low k) (sym e) a }
 
 -- the order of legal moves is that of their places
 pub less_place : (a b : Move) → IsOnBoard a → IsOnBoard b → move_cmp a b ≡ Less → place a < place b
@@ -121,10 +118,6 @@ none_here p r s n m illegal low e = let same : place_of r s n + 1 ≡ place_of r
 
 pub not_both : {b : Bool} → IsTrue b → b ≡ false → ⊥
 not_both h e = let both : true ≡ false = sym h ∙ e in cc
-
--- the same list, its bound written otherwise
-pub list_at : (p : State) (n k : ℕ) (ms : List Move) → IsListBelow p n ms → n ≡ k → IsListBelow p k ms
-list_at p n k ms h e = subst (λ j. IsListBelow p j ms) e h
 
 pub next_answer : (p : State) (after a : Option Move) (low : ℕ) (r : Option Move) → after ≡ a → IsGood a → low ≡ start_after a → MatchOption r (NoneFrom p low 28672) (λ m. IsFirstMove p low 28672 m) → MatchOption r (IsLast p after) (λ m. IsNext p after m)
 next_answer p after a low None is good e h = subst (λ x. IsLast p x) (sym is) (next_none p a good (subst (λ n. NoneFrom p n 28672) e h))
@@ -202,9 +195,6 @@ module _ (p : State) (k : Kind) (r s : ℕ) (pos : IsPosition p) (here : Stands 
   ])
 
 -- ---- the loops
-pub none_cut : (p : State) (r s a n k : ℕ) → NoneFrom p (place_of r s 0) (place_of r s a) → k ≡ max a n → NoneFrom p (place_of r s n) (place_of r s k)
-none_cut p r s a n k h e m l low = let far : place_of r s a ≤ place m = h m l (omega arith) in omega arith
-
 pub none_then : (p : State) (low a b high : ℕ) → NoneFrom p low a → NoneFrom p b high → b ≤ a → NoneFrom p low high
 none_then p low a b high f g le m l h = let far : a ≤ place m = f m l h in g m l (omega arith)
 

@@ -26,10 +26,6 @@ none_held b q h = elim (get b q) as (λ o. get b q ≡ o → IsVacant b q) [
   | Some m ↦ λ e. absurd (h (λ f. let g : None ≡ Some m = sym f ∙ e in cc))
 ] refl
 
-pub inside_ahead : (c : Color) (r : ℕ) → IsInside c 16 r → HasAhead c 1 r
-inside_ahead White r h = omega arith
-inside_ahead Black r h = omega arith
-
 pub first_set : (b : Placement) (c : Color) (r s front held n : ℕ) → r < 64 → HasAhead c 1 r → s ≡ ahead c 1 r → IsSetOf front (λ q. q ≡ s) → ((q : ℕ) → q < 64 → has held q ≡ is_held (get b q)) → ((q : ℕ) → q < 64 → has n q ≡ has front q && not (has held q)) → IsSetOf n (StepsTo b c r)
 first_set b c r s front held n low near e one men rest = set_like n
     (λ q _ h. (h.0, none_held b q h.1))

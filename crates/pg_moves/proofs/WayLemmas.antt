@@ -162,12 +162,6 @@ pub record KeptTo (b : Placement) (f : Color) (h attackers at kept : ℕ) : Type
   pub vain : (s : ℕ) → s < 64 → has kept s ≡ false → StaysAttacked b f h s
   pub safe : (s : ℕ) → s < 64 → has kept s ≡ true → (x : ℕ) → x < at → has attackers x ≡ true → (x ≡ s) ⊎ IsBetween x s h
 
-pub kept_start : (b : Placement) (f : Color) (h attackers full : ℕ) → ((q : ℕ) → q < 64 → has full q ≡ true) → KeptTo b f h attackers 0 full
-kept_start b f h attackers full all = record {
-  vain = λ s l e. absurd (let t : has full s ≡ true = all s l in cc);
-  safe = λ s l e x low. absurd (omega arith);
-}
-
 pub kept_on : (b : Placement) (f : Color) (h attackers at kept one next a after : ℕ) → KeptTo b f h attackers at kept → IsFirstFrom attackers at a
     → ((s : ℕ) → s < 64 → has one s ≡ false → StaysAttacked b f h s)
     → ((s : ℕ) → s < 64 → has one s ≡ true → (a ≡ s) ⊎ IsBetween a s h)

@@ -21,9 +21,6 @@ use Rattle.pg_pawns.specs.PawnPrices.{IsShift, PawnPricesFit, PawnPricesExclude}
 use Rattle.pg_pawns.specs.inner.PriceTests.{IsAhead, PairFits, SourceFits, AllFit}
 
 -- ---- a pair
-yes_pair : (c : Color) (s u t v : ℕ) → PairFits c s u t v → IsTrue true ↔ PairFits c s u t v
-yes_pair c s u t v h = ((λ y. h), (λ y. refl))
-
 pub pair_low : (c : Color) (s u t v : ℕ) → v ≤ u → IsTrue true ↔ PairFits c s u t v
 unfolding PairFits
 pair_low c s u t v l = ((λ y n h. omega arith), (λ y. refl))

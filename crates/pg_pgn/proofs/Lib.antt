@@ -2,7 +2,6 @@ pub mod TokenLemmas
 pub mod ReadingLemmas
 pub mod FaultLemmas
 pub mod LegalLemmas
-pub mod KnownLemmas
 mod EndLemmas
 mod ProblemLemmas
 pub mod WritingLemmas

@@ -207,9 +207,6 @@ after_more : (r : Reader) (m : Move) (ms : List Move) (s q : State) → after (m
 unfolding after
 after_more r m ms s q = ap (λ (l : List Move). record { games = r.games; moves = l; here = q; headed = r.headed; depth = r.depth }) (append_assoc r.moves (m ∷ []) ms)
 
-after_depth : (r : Reader) (m : Move) (s : State) → r.depth ≡ 0 → (moved r m s).depth ≡ 0
-after_depth r m s depth = depth
-
 san_some : (p : State) (m : Move) (san : List ℕ) → IsSan p m san → 0 < length san
 san_some p m san is = let t = move_text p m san is in let e : length san ≡ suc (length t.w) = ap length t.is in omega (arith, e)
 

@@ -3,7 +3,6 @@ pub mod Tokens
 pub mod Places
 pub mod Pgn
 pub mod Steps
-pub mod KnownReadings
 pub mod Ends
 pub mod Problems
 pub mod Languages

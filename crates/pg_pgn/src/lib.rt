@@ -5,13 +5,11 @@
 mod ends;
 mod fault;
 mod games;
-mod known;
 mod languages;
 mod laws;
 mod letters;
 mod listing;
 mod naming;
-mod numbers;
 mod places;
 mod problems;
 mod reading;

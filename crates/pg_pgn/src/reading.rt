@@ -1,17 +1,15 @@
 //! Reading a file of games.
-ghost use Rattle.std.specs.Prelude.{◌≡◌, ℕ, ◌+◌, ◌<◌, ◌≤◌, List, [], length, map, OnOk, IfOk, IfErr, All, false};
+ghost use Rattle.std.specs.Prelude.{◌≡◌, ℕ, ◌+◌, ◌<◌, ◌≤◌, List, [], length, map, OnOk, IfOk, IfErr, false};
 ghost use Rattle.pg_pgn.specs.Tokens.{StartsWith, without_mark};
 ghost use Rattle.pg_pgn.specs.declared.fault.PgnFault.TheVariants as PgnFault;
 ghost use Rattle.pg_pgn.specs.declared.signs.Sign.TheVariants as Sign;
 ghost use Rattle.pg_pgn.specs.declared.reading.Cause.TheVariants as Cause;
 ghost use Rattle.pg_pgn.specs.Pgn.{said, sign_of, tag_sign, word_sign, Goes, at_game};
 ghost use Rattle.pg_pgn.specs.Pgn.{ended, head, moved, all_games, IsFile, IsFirstFault};
-ghost use Rattle.pg_pgn.specs.KnownReadings.{IsKnown};
 ghost use Rattle.pg_pgn.specs.Steps.{at, AreLegal, IsCause, IsOfTag, IsOpen, Tells, open_fault};
 
 use crate::fault::{FormFault, PgnFault};
 use crate::games::PgnGames;
-use crate::known::{Known, read_known, room};
 use crate::letters::Letters;
 use crate::places::place_of;
 use crate::signs::Sign;
@@ -19,7 +17,7 @@ use crate::tags::tag_sign;
 use crate::tokens::{TokenKind, body, kind_at, kind_of, more_len};
 use crate::words::{shown, word_sign, write_said};
 use pg_position::{Move, Position};
-use pg_san::SanFault;
+use pg_san::{KnownReadings, SanFault};
 use std::alloc::{AllocError, Global};
 use std::mem;
 
@@ -137,15 +135,13 @@ fn keep(reading: &mut Reading, m: Move, next: Position) -> Result<(), Cause>
 
 // Goes on behind a move of the main line.
 #[tactic(auto, unfolding(crate::specs::Pgn::Goes))]
-fn step_move(reading: &mut Reading, known: &mut [Known], text: &str) -> Result<(), Cause>
-    requires depth { reading.old.depth ≡ 0 }
-    requires known { All IsKnown known.old }
-    ensures known { All IsKnown known.new }
+fn step_move(reading: &mut Reading, known: &mut KnownReadings, text: &str) -> Result<(), Cause>
+    requires { reading.old.depth ≡ 0 }
     ensures ok { OnOk result (Goes Sign.Moves (at reading.old) text.now (at reading.new)) }
     ensures err { IfErr result (IsCause Sign.Moves (at reading.old) text.now) }
 {
     let mut here = reading.here;
-    match read_known(known, &mut here, text) {
+    match known.read(&mut here, text.as_bytes()) {
         Ok(m) => keep(reading, m, here),
         Err(cause) => Err(Cause::Word(cause)),
     }
@@ -156,12 +152,10 @@ fn step_move(reading: &mut Reading, known: &mut [Known], text: &str) -> Result<(
 fn step_said(
     alloc: Global,
     reading: &mut Reading,
-    known: &mut [Known],
+    known: &mut KnownReadings,
     text: &str,
 ) -> Result<(), Cause>
-    requires depth { reading.old.depth ≡ 0 }
-    requires known { All IsKnown known.old }
-    ensures known { All IsKnown known.new }
+    requires { reading.old.depth ≡ 0 }
     ensures ok { OnOk result (Goes (word_sign text.now) (at reading.old) text.now (at reading.new)) }
     ensures err { IfErr result (IsCause (word_sign text.now) (at reading.old) text.now) }
 {
@@ -177,13 +171,11 @@ fn step_said(
 fn step_word(
     alloc: Global,
     reading: &mut Reading,
-    known: &mut [Known],
+    known: &mut KnownReadings,
     letters: Letters,
     token: &[u8],
     text: &mut String,
 ) -> Result<(), Cause>
-    requires { All IsKnown known.old }
-    ensures known { All IsKnown known.new }
     ensures ok { OnOk result (Goes (word_sign (said letters token.now)) (at reading.old) (said letters token.now)
         (at reading.new)) }
     ensures err { IfErr result
@@ -203,14 +195,12 @@ fn step_word(
 fn step(
     alloc: Global,
     reading: &mut Reading,
-    known: &mut [Known],
+    known: &mut KnownReadings,
     letters: Letters,
     token: &[u8],
     text: &mut String,
 ) -> Result<(), Cause>
-    requires depth { reading.old.depth < 18446744073709551615 }
-    requires known { All IsKnown known.old }
-    ensures known { All IsKnown known.new }
+    requires { reading.old.depth < 18446744073709551615 }
     ensures ok { OnOk result
         (Goes (sign_of letters token.now) (at reading.old) (said letters token.now) (at reading.new)) }
     ensures err { IfErr result (IsCause (sign_of letters token.now) (at reading.old) (said letters token.now)) }
@@ -360,39 +350,6 @@ fn ply_number(reading: &Reading) -> usize
     reading.moves.len() + 1
 }
 
-// Reads a text, one token after another, by what is known.
-fn read_tokens(
-    alloc: Global,
-    text: &[u8],
-    letters: Letters,
-    known: &mut [Known],
-) -> Result<PgnGames, PgnFault>
-    requires { All IsKnown known.old }
-    ensures ok { IfOk result (λ games. IsFile letters text.now games) }
-    ensures err { IfErr result (λ e. IsFirstFault letters text.now e) }
-{
-    let mut reading = begun(alloc);
-    let mut word = String::new(alloc);
-    let mut rest = body(text);
-    while !rest.is_empty() {
-        let game = game_number(&reading);
-        let ply = ply_number(&reading);
-        let (token, after) = match next_token(rest) {
-            Ok(cut) => cut,
-            Err(fault) => return Err(form_fault(text, rest, game, fault)),
-        };
-        match step(alloc, &mut reading, known, letters, token, &mut word) {
-            Ok(()) => {}
-            Err(cause) => return Err(fault_of(text, rest, game, ply, token, cause)),
-        }
-        rest = after;
-    }
-    if reading.depth > 0 {
-        return Err(form_fault(text, rest, game_number(&reading), FormFault::Variation));
-    }
-    games_of(alloc, reading)
-}
-
 /// The games of a text in PGN (the import format of the PGN standard, sections 7 and 8), each from the initial array
 /// and in the order of the text, the same game as often as it stands there. The men's letters are those of a language,
 /// or figurines; `:` and a cross stand for `x` too, a dash for `-`, and `o` for the letter of castling. Comments,
@@ -408,6 +365,25 @@ pub fn read_pgn(alloc: Global, text: &[u8], letters: Letters) -> Result<PgnGames
     ensures ok { IfOk result (λ games. IsFile letters text.now games) }
     ensures err { IfErr result (λ e. IsFirstFault letters text.now e) }
 {
-    let mut known = room(alloc, text.len());
-    read_tokens(alloc, text, letters, known.as_mut_slice())
+    let mut known = KnownReadings::new(alloc, text.len());
+    let mut reading = begun(alloc);
+    let mut word = String::new(alloc);
+    let mut rest = body(text);
+    while !rest.is_empty() {
+        let game = game_number(&reading);
+        let ply = ply_number(&reading);
+        let (token, after) = match next_token(rest) {
+            Ok(cut) => cut,
+            Err(fault) => return Err(form_fault(text, rest, game, fault)),
+        };
+        match step(alloc, &mut reading, &mut known, letters, token, &mut word) {
+            Ok(()) => {}
+            Err(cause) => return Err(fault_of(text, rest, game, ply, token, cause)),
+        }
+        rest = after;
+    }
+    if reading.depth > 0 {
+        return Err(form_fault(text, rest, game_number(&reading), FormFault::Variation));
+    }
+    games_of(alloc, reading)
 }

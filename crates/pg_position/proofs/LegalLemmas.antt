@@ -19,21 +19,13 @@ use Rattle.pg_position.specs.declared.refusals.Illegal.{Illegal}
 use Rattle.pg_position.specs.declared.refusals.Illegal.TheVariants.{LeavesCheck}
 use Rattle.pg_position.specs.Geometry.{apart, IsForward, InPattern}
 use Rattle.pg_position.specs.Position.{parts, Stands, IsVacant, IsPassed, InCheck, holds, IsPosition}
-use Rattle.pg_position.specs.Step.{Goes, IsDoubleAdvance, IsPromotion, IsCastling, IsWay, relocated, passed_after, rights_after, after, IsOnBoard, Step, Legal, IsLegal, IsCause}
+use Rattle.pg_position.specs.Step.{Goes, IsDoubleAdvance, IsCastling, IsWay, relocated, passed_after, rights_after, after, IsOnBoard, Step, Legal, IsLegal, IsCause}
 use Rattle.pg_position.specs.Squares.{king_home, ahead, HasAhead, home_rank, king_target}
 use Rattle.pg_position.proofs.StepLemmas.{not_both, same_kind, one_way, one_step, one_target, promoted_not, two_files, cause_refutes}
 use Rattle.pg_position.proofs.ValidLemmas.{step_valid}
 
 pub not_so : {A : Type 0} (b : Bool) → IsTrue b ↔ A → b ≡ false → ¬ A
 not_so b h e = λ a. let t : b ≡ true = h.1 a in cc
-
-pub promoted_way : (p : State) (k : Kind) (m : Move) (x : Kind) → m.promotion ≡ Some x → ((w : StepKind) × IsWay p k m w) → IsWay p k m (Promotion x)
-promoted_way p k m x e (Plain, h) = promoted_not p m x e h.unpromoted
-promoted_way p k m x e (Capture, h) = promoted_not p m x e h.unpromoted
-promoted_way p k m x e (DoubleAdvance, h) = promoted_not p m x e h.unpromoted
-promoted_way p k m x e (EnPassant, h) = promoted_not p m x e h.unpromoted
-promoted_way p k m x e (Castling v, h) = promoted_not p m x e h.unpromoted
-promoted_way p k m x e (Promotion y, h) = let a : m.promotion ≡ Some y = h.promoted in let same : y ≡ x = cc in subst (λ (z : Kind). IsPromotion p k m z) same h
 
 pub piece_plain : (p : State) (k : Kind) (m : Move) → k ≢ Pawn → k ≢ King → m.promotion ≡ None → IsVacant p.board m.to → ((w : StepKind) × IsWay p k m w) → IsWay p k m Plain
 piece_plain p k m a b n v (Plain, h) = h
@@ -200,15 +192,6 @@ pub passed_two : (p : State) (m : Move) (k : Kind) (w : StepKind) → Stands p.b
 passed_two p m k w pawn t there way =
     let path : IsWay p Pawn m w = subst (λ (j : Kind). IsWay p j m w) (same_kind there pawn) way in
     ap (passed_after p m) (sym (two_double p m w t path).0)
-
--- no other move passes a square
-pub passed_none : (p : State) (m : Move) (k : Kind) (w : StepKind) → (Stands p.board p.side Pawn m.from → TwoRanks m → ⊥) → Stands p.board p.side k m.from → IsWay p k m w → None ≡ passed_after p m w
-passed_none p m k Plain other_way there way = refl
-passed_none p m k Capture other_way there way = refl
-passed_none p m k EnPassant other_way there way = refl
-passed_none p m k (Castling v) other_way there way = refl
-passed_none p m k (Promotion x) other_way there way = refl
-passed_none p m k DoubleAdvance other_way there way = absurd (other_way (subst (λ (j : Kind). Stands p.board p.side j m.from) way.pawn there) (two_ranks p.side m.from m.to way.two way.home))
 
 -- the square that it passes is on the board
 two_ahead : (c : Color) (r : ℕ) → rank r ≡ home_rank c → HasAhead c 1 r

@@ -1,7 +1,6 @@
 -- Texts appended one after the other make the lines that show a diagram. Leads to the contract of `run_show`.
 use Rattle.std.proofs.Common.{◌≡◌, ℕ, List, ◌++◌, Option, Some, subst, sym, refl}
 use Rattle.std.specs.Prelude.{codes}
-use Rattle.std.specs.Option.{option_map}
 use Rattle.std.proofs.KnownBytes.{Appends-trans}
 use Rattle.std.specs.Io.KnownBytes.{Appends}
 use Rattle.pg_certificate.specs.Pushing.{AddsSome}
@@ -12,12 +11,12 @@ use Rattle.pg_captures.specs.Counting.{men, any_man}
 use Rattle.pg_fen.specs.Lengths.{length_text}
 use Rattle.pg_texts.specs.BoardText.{board_text}
 use Rattle.pg_report.specs.declared.sides.Reason.{Reason}
-use Rattle.pg_report.specs.Sides.{own_plies, IsSideNeed}
+use Rattle.pg_report.specs.Sides.{IsSideNeed}
 use Rattle.pg_report.specs.Expecting.{IsExpected, end_text, expected_text, range_text}
 use Rattle.pg_report.specs.declared.expecting.Expected.{Expected}
 use Rattle.pg_report.specs.Within.{AreKnown, name_of}
 use Rattle.pg_journeys.specs.declared.facts.Facts.{Facts as FactSets}
-use Rattle.pg_report.specs.Showing.{counted_text, men_text, captured_text, reason_text, spare_text, need_text, open_line, below_text, IsSideLine, IsShown}
+use Rattle.pg_report.specs.Showing.{counted_text, men_text, captured_text, reason_text, need_text, open_line, below_text, IsSideLine, IsShown}
 
 pub men_grow : (d : Placement) (c : Color) (n : ℕ) (name : List ℕ) (x y z : Option (List ℕ)) → name ≡ name_of c → n ≡ men c any_man d → Appends x y name → Appends y z (counted_text n (codes " man, captured ") (codes " men, captured ")) → Appends x z (men_text d c)
 men_grow d c n name x y z named counted first second = Appends-trans x y z (name_of c) _ (subst (Appends x y) named first) (subst (λ k. Appends y z (counted_text k (codes " man, captured ") (codes " men, captured "))) counted second)
@@ -34,13 +33,6 @@ expected_grows expected e words w x y z is said first second third =
 pub never_grows : (reason : Option Reason) (words : List ℕ) (w x y z : Option (List ℕ)) → words ≡ reason_text reason → Appends w x (codes "cannot stand so in 64.0 moves or less") → Appends x y words → Appends y z (codes "\n")
     → Appends w z (codes "cannot stand so in 64.0 moves or less" ++ (reason_text reason ++ codes "\n"))
 never_grows reason words w x y z is first second third = Appends-trans w x z (codes "cannot stand so in 64.0 moves or less") _ first (Appends-trans x y z (reason_text reason) (codes "\n") (subst (Appends x y) is second) third)
-
--- what a colour needs, then what is left over
-pub need_grows : (c : Color) (n : ℕ) (need : Option ℕ) (reason : Option Reason) (asked own : Option ℕ) (w x y : Option (List ℕ)) → need ≡ Some n → own ≡ option_map (own_plies c) asked
-    → Appends w x (codes "needs " ++ (counted_text n (codes " ply") (codes " plies") ++ reason_text reason)) → Appends x y (spare_text own n) → Appends w y (need_text c need reason asked)
-need_grows c n need reason asked own w x y is has first second =
-    subst (λ o. Appends w y (need_text c o reason asked)) (sym is)
-    (Appends-trans w x y (codes "needs " ++ (counted_text n (codes " ply") (codes " plies") ++ reason_text reason)) _ first (subst (λ o. Appends x y (spare_text o n)) has second))
 
 pub side_grows : (d : Placement) (c : Color) (need : Option ℕ) (reason : Option Reason) (asked : Option ℕ) (w x y z : Option (List ℕ)) → IsSideNeed d c need reason → Appends w x (men_text d c) → Appends x y (captured_text d c) → Appends y z (need_text c need reason asked) → AddsSome (IsSideLine d c asked) w z
 side_grows d c need reason asked w x y z is first second third = (

@@ -8,7 +8,7 @@ use Rattle.pg_position.specs.declared.moves.Move.{Move}
 use Rattle.pg_position.specs.Step.{Legal}
 use Rattle.pg_san.specs.declared.known.Known.{Known}
 use Rattle.pg_san.specs.Matching.{IsReading}
-use Rattle.pg_san.specs.inner.KnownReadings.{IsKnown, IsStepRead}
+use Rattle.pg_san.specs.KnownReadings.{IsKnown, IsStepRead}
 
 pub says_nothing : (k : Known) → 8 < k.length → IsKnown k
 unfolding IsKnown

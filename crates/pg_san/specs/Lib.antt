@@ -9,5 +9,6 @@ pub mod Adding
 pub mod GameText
 pub mod TextLeft
 pub mod Listing
+pub mod KnownReadings
 pub mod KnownTexts
 pub mod inner

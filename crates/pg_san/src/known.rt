@@ -1,22 +1,27 @@
-//! Readings that are known: games of one list come again and again to the same positions, and read the same
-//! texts there.
+//! Readings that are known: games of one text come again and again to the same positions, and read the same
+//! words there.
 ghost use Rattle.std.specs.Prelude.{◌≡◌, ◌≤◌, IsTrue, All, IfSome, length, take, Ok};
 ghost use Rattle.pg_san.specs.inner.Walk.{IsTextReading};
-ghost use Rattle.pg_san.specs.inner.KnownReadings.{IsKnown, IsStepRead};
+ghost use Rattle.pg_san.specs.KnownReadings.{IsKnown, IsStepRead};
 
 use crate::fault::SanFault;
 use crate::numbers::position_number;
 use crate::reading::{Found, read_step};
 use pg_position::{Move, Position};
+use std::alloc::Global;
+use std::marker::Model;
 
-// The longest text that is kept.
+// For a text of fewer bytes there is no room: its games are too few to pay for some 43 KB that are filled at first.
+const SHORT: usize = 8000;
+
+// The longest word that is kept.
 const LONGEST: usize = 8;
 
-/// How many readings are kept at most: two at each place.
-pub(crate) const MOST_KNOWN: usize = 256;
+// How many readings are kept at most: two at each place.
+const MOST_KNOWN: usize = 256;
 
-/// A text that was read in a position: the move that it names there, and where the move leads. A length above the
-/// longest says nothing.
+// A word that was read in a position: the move that it names there, and where the move leads. A length above the
+// longest says nothing.
 #[derive(Clone, Copy)]
 pub(crate) struct Known {
     pub(crate) position: Position,
@@ -26,8 +31,8 @@ pub(crate) struct Known {
     pub(crate) m: Move,
 }
 
-/// What says nothing.
-pub(crate) fn nothing() -> Known
+// What says nothing.
+fn nothing() -> Known
     ensures { IsKnown result }
 {
     Known {
@@ -136,13 +141,8 @@ fn read_new(
     }
 }
 
-/// The one legal move that the bytes of a text name, as `read_step` has it, and goes on to where it leads: by what
-/// is known, which grows, or by reading. Room of any length will do, also none.
-pub(crate) fn read_known(
-    known: &mut [Known],
-    here: &mut Position,
-    text: &[u8],
-) -> Result<Move, SanFault>
+// Goes on by a text that is read: by what is known, which grows, or by reading. Room of any length will do, also none.
+fn read_known(known: &mut [Known], here: &mut Position, text: &[u8]) -> Result<Move, SanFault>
     requires { All IsKnown known.old }
     ensures read { IsStepRead here.old text.now here.new result }
     ensures known { All IsKnown known.new }
@@ -156,4 +156,50 @@ pub(crate) fn read_known(
         return Ok(kept.m);
     }
     read_new(known, place, here, text)
+}
+
+/// What the words of games are known to name, for a reader of many games. Contracts see nothing of it: what is known
+/// changes no answer.
+#[derive(Drop)]
+pub struct KnownReadings {
+    known: Vec<Known>,
+}
+
+impl Model for KnownReadings {
+    ghost use Rattle.std.specs.Prelude.{All, Unit, tt};
+    ghost use Rattle.pg_san.specs.KnownReadings.{IsKnown};
+
+    ghost Value = { Unit {0} };
+
+    ghost view = { λ _. tt };
+
+    ghost invariant = { λ r. All IsKnown r.known.items };
+}
+
+impl KnownReadings {
+    /// Nothing is known. For a text of 8,000 bytes or more room of some 43 KB is taken from `alloc`; where it is
+    /// refused, and for a shorter text, nothing will be known.
+    pub fn new(alloc: Global, length: usize) -> KnownReadings {
+        if length < SHORT {
+            return KnownReadings {
+                known: Vec::new(alloc),
+            };
+        }
+        match Vec::from_elem(alloc, nothing(), MOST_KNOWN) {
+            Ok(known) => KnownReadings { known },
+            Err(_) => KnownReadings {
+                known: Vec::new(alloc),
+            },
+        }
+    }
+
+    /// The one legal move that a text names in the position `here`, read as by `read`, and goes on to where it leads.
+    ///
+    /// # Errors
+    /// Those of `read`.
+    pub fn read(&mut self, here: &mut Position, text: &[u8]) -> Result<Move, SanFault>
+        ensures { IsStepRead here.old text.now here.new result }
+    {
+        read_known(self.known.as_mut_slice(), here, text)
+    }
 }

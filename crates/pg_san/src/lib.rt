@@ -27,6 +27,7 @@ mod written;
 pub use adding::AddFault;
 pub use fault::SanFault;
 pub use games::Games;
+pub use known::KnownReadings;
 pub use laws::{
     one_text, text_grammar, texts_differ, written_text_is_matched, written_text_is_read,
 };

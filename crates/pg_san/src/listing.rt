@@ -1,24 +1,18 @@
 //! Texts of games.
 ghost use Rattle.std.specs.Prelude.{◌≡◌, ◌≢◌, ◌↔◌, ◌∷◌, ◌++◌, IsTrue, MatchResult, IfOk, IfErr, OnOk, OnErr, []};
-ghost use Rattle.std.specs.Prelude.{All};
 ghost use Rattle.pg_san.specs.GameText.{words, dash};
 ghost use Rattle.pg_san.specs.Listing.{AreGame, IsGameLine, IsLineFault, IsListing, IsTextFault};
 ghost use Rattle.pg_san.specs.inner.LineReading.{IsWordsFault, IsGameFault, IsLineRead};
-ghost use Rattle.pg_san.specs.inner.KnownReadings.{IsKnown};
 
 use crate::adding::AddFault;
 use crate::fault::SanFault;
 use crate::games::{Games, MOST_GAMES};
-use crate::known::{Known, MOST_KNOWN, nothing, read_known};
+use crate::known::KnownReadings;
 use crate::lines::next_line;
 use crate::listing_fault::GamesFault;
 use crate::words::{next_word, without_move_number};
 use pg_position::{Move, Position};
 use std::alloc::Global;
-
-// A text of fewer bytes is read with nothing known: its games are too few to pay for the room, which is some 43 KB
-// that are filled at first.
-const SHORT: usize = 8000;
 
 // Why a line is no game that is kept: the word of a ply, counted from 1, is not read; or memory is
 // refused for a line that is a game.
@@ -37,10 +31,8 @@ fn keep(game: &mut Vec<Move>, kept: bool, m: Move) -> bool
 
 // The game that the words of a line are. Where memory is refused, the words behind are read all the
 // same, so that want of memory stands only where there is a game.
-fn read_words(alloc: Global, line: &[u8], known: &mut [Known]) -> Result<Vec<Move>, LineFault>
-    requires { All IsKnown known.old }
-    ensures known { All IsKnown known.new }
-    ensures read { MatchResult result (λ v. AreGame (words line.now) v.items) (λ e. IsWordsFault (words line.now) e) }
+fn read_words(alloc: Global, line: &[u8], known: &mut KnownReadings) -> Result<Vec<Move>, LineFault>
+    ensures { MatchResult result (λ v. AreGame (words line.now) v.items) (λ e. IsWordsFault (words line.now) e) }
 {
     let mut game = Vec::new(alloc);
     let mut kept = true;
@@ -51,7 +43,7 @@ fn read_words(alloc: Global, line: &[u8], known: &mut [Known]) -> Result<Vec<Mov
         rest = after;
         let text = without_move_number(word);
         if !text.is_empty() {
-            let m = match read_known(known, &mut here, text) {
+            let m = match known.read(&mut here, text) {
                 Ok(m) => m,
                 Err(cause) => return Err(LineFault::Word(plies + 1, cause)),
             };
@@ -77,11 +69,9 @@ fn is_dash(line: &[u8]) -> bool
 }
 
 // The game of a line that has words.
-fn read_game(alloc: Global, line: &[u8], known: &mut [Known]) -> Result<Vec<Move>, LineFault>
-    requires some { words line.now ≢ [] }
-    requires known { All IsKnown known.old }
-    ensures known { All IsKnown known.new }
-    ensures read { MatchResult result (λ v. IsGameLine line.now v.items) (λ e. IsGameFault line.now e) }
+fn read_game(alloc: Global, line: &[u8], known: &mut KnownReadings) -> Result<Vec<Move>, LineFault>
+    requires { words line.now ≢ [] }
+    ensures { MatchResult result (λ v. IsGameLine line.now v.items) (λ e. IsGameFault line.now e) }
 {
     if is_dash(line) {
         return Ok(Vec::new(alloc));
@@ -95,11 +85,9 @@ fn add_line(
     games: &mut Games,
     line: &[u8],
     number: usize,
-    known: &mut [Known],
+    known: &mut KnownReadings,
 ) -> Result<(), GamesFault>
-    requires some { words line.now ≢ [] }
-    requires known { All IsKnown known.old }
-    ensures known { All IsKnown known.new }
+    requires { words line.now ≢ [] }
     ensures ok { OnOk result (IsLineRead line.now games.old games.new) }
     ensures err { IfErr result (λ e. IsLineFault line.now number games.old e) }
 {
@@ -130,10 +118,8 @@ fn read_line(
     games: &mut Games,
     line: &[u8],
     number: usize,
-    known: &mut [Known],
+    known: &mut KnownReadings,
 ) -> Result<(), GamesFault>
-    requires { All IsKnown known.old }
-    ensures known { All IsKnown known.new }
     ensures ok { OnOk result (IsLineRead line.now games.old games.new) }
     ensures err { IfErr result (λ e. IsLineFault line.now number games.old e) }
 {
@@ -141,48 +127,6 @@ fn read_line(
         Some(_) => add_line(alloc, games, line, number, known),
         None => Ok(()),
     }
-}
-
-// Reads the lines of a text, one behind another, by what is known.
-fn read_lines(alloc: Global, text: &str, known: &mut [Known]) -> Result<Games, GamesFault>
-    requires { All IsKnown known.old }
-    ensures ok { IfOk result (λ games. IsListing text.now games) }
-    ensures err { IfErr result (λ e. IsTextFault text.now e) }
-{
-    let mut games = Games::new(alloc);
-    let mut number = 0;
-    let mut rest = Some(text.as_bytes());
-    while let Some(left) = rest {
-        let (line, after) = next_line(left);
-        rest = after;
-        number += 1;
-        match read_line(alloc, &mut games, line, number, known) {
-            Ok(()) => {}
-            Err(fault) => return Err(fault),
-        }
-    }
-    Ok(games)
-}
-
-// Room for what is known of the games of a long text; none where memory is refused.
-fn room(alloc: Global) -> Vec<Known>
-    ensures { All IsKnown result.items }
-{
-    match Vec::from_elem(alloc, nothing(), MOST_KNOWN) {
-        Ok(known) => known,
-        Err(_) => Vec::new(alloc),
-    }
-}
-
-// Reads the lines of a text that may have many games. What is known of them stands in room of the allocator, since a
-// caller's stack may be small. Where that is refused the text is read all the same, with nothing known.
-#[inline(never)]
-fn read_many(alloc: Global, text: &str) -> Result<Games, GamesFault>
-    ensures ok { IfOk result (λ games. IsListing text.now games) }
-    ensures err { IfErr result (λ e. IsTextFault text.now e) }
-{
-    let mut known = room(alloc);
-    read_lines(alloc, text, known.as_mut_slice())
 }
 
 /// The games of a text: one game a line, its moves in standard algebraic notation (the PGN standard,
@@ -202,9 +146,18 @@ pub fn read_games(alloc: Global, text: &str) -> Result<Games, GamesFault>
     ensures ok { IfOk result (λ games. IsListing text.now games) }
     ensures err { IfErr result (λ e. IsTextFault text.now e) }
 {
-    if text.len() < SHORT {
-        read_lines(alloc, text, &mut [])
-    } else {
-        read_many(alloc, text)
+    let mut known = KnownReadings::new(alloc, text.len());
+    let mut games = Games::new(alloc);
+    let mut number = 0;
+    let mut rest = Some(text.as_bytes());
+    while let Some(left) = rest {
+        let (line, after) = next_line(left);
+        rest = after;
+        number += 1;
+        match read_line(alloc, &mut games, line, number, &mut known) {
+            Ok(()) => {}
+            Err(fault) => return Err(fault),
+        }
     }
+    Ok(games)
 }

@@ -1,12 +1,12 @@
 -- What bytes state goes on to be stated by more bytes, and is read tariff by tariff.
-use Rattle.std.proofs.Common.{◌≡◌, ◌≢◌, ◌∙◌, inl, inr, ℕ, suc, ◌+◌, ◌*◌, ◌<◌, ◌≤◌, List, [], ◌∷◌, ◌++◌, length, get_or, ap, sym, subst, arith}
+use Rattle.std.proofs.Common.{◌≡◌, ◌≢◌, ◌∙◌, inl, inr, ℕ, ◌+◌, ◌*◌, ◌<◌, ◌≤◌, List, [], ◌∷◌, ◌++◌, length, get_or, ap, sym, subst, arith}
 use Rattle.std.proofs.lemmas.Bool.Decides.{eqb_tells}
 use Rattle.std.proofs.Math.ListN.{get_or-append, length-append}
-use Rattle.std.proofs.lemmas.List.{get_or-append-add, get_or_push}
+use Rattle.std.proofs.lemmas.List.{get_or_push}
 use Rattle.pg_tolls.specs.Tariffs.{Tariff}
 use Rattle.pg_tolls.specs.Stated.{stated}
 use Rattle.pg_tolls.specs.declared.tariff.Tariff.{Tariff as Told}
-use Rattle.pg_tariff_files.specs.Files.{AreRead, AreStated, IsAt, nothing, signed}
+use Rattle.pg_tariff_files.specs.Files.{AreRead, IsAt, nothing, signed}
 
 -- a tariff stays stated where more bytes follow
 kept : (bytes own : List ℕ) (at : ℕ) (t : Tariff) → at + 130 ≤ length bytes → IsAt bytes at t → IsAt (bytes ++ own) at t
@@ -16,39 +16,6 @@ kept bytes own at t room is = record {
   by_white = λ q low. is.by_white q low ∙ ap signed (sym (get_or-append bytes own 0 (at + 2 + q) (omega arith)));
   by_black = λ q low. is.by_black q low ∙ ap signed (sym (get_or-append bytes own 0 (at + 66 + q) (omega arith)));
 }
-
-read_behind : (bytes own : List ℕ) (n k m : ℕ) → length bytes ≡ n → m ≡ n + k → get_or (bytes ++ own) m 0 ≡ get_or own k 0
-read_behind bytes own n k m long is =
-    ap (λ (i : ℕ). get_or (bytes ++ own) i 0) (is ∙ ap (λ (j : ℕ). j + k) (sym long)) ∙ get_or-append-add bytes own k 0
-
--- and one is stated behind the others
-behind : (bytes own : List ℕ) (at : ℕ) (t : Tariff) → length bytes ≡ at → IsAt own 0 t → IsAt (bytes ++ own) at t
-behind bytes own at t long is = record {
-  white = is.white ∙ sym (read_behind bytes own at 0 at long (omega arith));
-  black = is.black ∙ sym (read_behind bytes own at 1 (at + 1) long (omega arith));
-  by_white = λ q low. is.by_white q low ∙ ap signed (sym (read_behind bytes own at (2 + q) (at + 2 + q) long (omega arith)));
-  by_black = λ q low. is.by_black q low ∙ ap signed (sym (read_behind bytes own at (66 + q) (at + 66 + q) long (omega arith)));
-}
-
-pub grown : (bytes own : List ℕ) (f : ℕ → Tariff) (n : ℕ) → AreStated bytes f n → length own ≡ 130 → IsAt own 0 (f n)
-    → AreStated (bytes ++ own) f (suc n)
-grown bytes own f n are long is = (
-  length-append bytes own ∙ omega (arith, are.0, long),
-  λ i low. elim (eqb_tells i n) [
-    | inl w ↦ subst (λ (j : ℕ). IsAt (bytes ++ own) (130 * j) (f j)) (sym w.1) (behind bytes own (130 * n) (f n) are.0 is)
-    | inr w ↦ (
-        let ne : i ≢ n = w.1 in
-        let less : i < n = omega arith in
-        kept bytes own (130 * i) (f i) (omega (arith, are.0, less)) (are.1 i less)
-        )
-  ],
-)
-
-pub none_stated : (bytes : List ℕ) (f : ℕ → Tariff) → length bytes ≡ 0 → AreStated bytes f 0
-none_stated bytes f none = (omega (arith, none), λ i low. absurd (omega (arith, low)))
-
-pub none_read : (bytes : List ℕ) (tariffs : List Told) → length tariffs ≡ 0 → AreRead bytes tariffs 0
-none_read bytes tariffs none = (none, λ i low. absurd (omega (arith, low)))
 
 pub more_read : (bytes : List ℕ) (tariffs : List Told) (t : Told) (n : ℕ) → AreRead bytes tariffs n → IsAt bytes (130 * n) (stated t)
     → AreRead bytes (tariffs ++ t ∷ []) (n + 1)

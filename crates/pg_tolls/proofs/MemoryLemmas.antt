@@ -1,5 +1,5 @@
 -- When cases are the same, and what a memory lends and takes back. Leads to the contracts of memory.
-use Rattle.std.proofs.Common.{◌≡◌, ℕ, ◌<◌, ◌↔◌, inl, inr, Option, Bool, true, false, not, ◌||◌, ◌&&◌, refl, sym, ap, ap₂, subst, ◌∙◌, List, length, get_or, replicate, IsTrue}
+use Rattle.std.proofs.Common.{◌≡◌, ℕ, ◌<◌, ◌↔◌, inl, inr, Option, Bool, true, false, not, ◌||◌, ◌&&◌, refl, sym, ap, ap₂, subst, ◌∙◌, List, length, replicate, IsTrue}
 use Rattle.std.specs.Prelude.{All, Vec, ℤ}
 use Rattle.std.specs.Ordering.{int_eq}
 use lib.Pointwise.{pointwise}
@@ -8,7 +8,7 @@ use Rattle.std.proofs.Math.Dec.{eqb}
 use Rattle.std.proofs.lemmas.Bool.Decides.{Decides-eqb, Decides-int_eq}
 use Rattle.std.specs.Vec.{with_items}
 use Rattle.std.proofs.lemmas.Bool.{cases_Bool, not-false}
-use Rattle.std.proofs.lemmas.List.{get_or_default, with_items_is}
+use Rattle.std.proofs.lemmas.List.{with_items_is}
 use Rattle.std.proofs.lemmas.List.Elements.{All-replicate, All-same}
 use Rattle.pg_board.specs.Bits.{has}
 use Rattle.pg_board.specs.declared.man.Color.{Color}
@@ -22,7 +22,7 @@ use Rattle.pg_board.specs.SquareSets.{Meet}
 use Rattle.pg_position.specs.Position.{Stands}
 use Rattle.pg_journeys.specs.declared.men.Men.{Men}
 use Rattle.pg_tolls.specs.Tariffs.{Tariff}
-use Rattle.pg_tolls.specs.inner.Remembering.{AreAlike, AreOnSame, AreSameClaims, IsOwner, Tells, IsRemembered}
+use Rattle.pg_tolls.specs.inner.Remembering.{AreAlike, AreOnSame, AreSameClaims, IsOwner, IsRemembered}
 use Rattle.pg_tolls.specs.Stated.{stated}
 use Rattle.pg_tolls.specs.declared.half.Half.{Half}
 use Rattle.pg_tolls.specs.declared.tariff.Tariff.{Tariff as Bytes}
@@ -77,12 +77,6 @@ alike_by c a b claims same j p is = record {
 }
 
 -- ---- what is remembered
--- two reads of one place
-pub recalled : (t : Tariff) (d : Placement) (c : Color) (goals : Men) (rs : List Remembered) (i : ℕ) (r v : Remembered) (a : Case) → All (IsRemembered t d c goals) rs → i < length rs → r ≡ get_or rs i r → v ≡ get_or rs i v → (r.is_told ≡ true) × AreAlike c r.case a → Tells t d c goals a v.value
-recalled t d c goals rs i r v a all low first second h =
-    subst (λ (o : Remembered). Tells t d c goals a o.value) (first ∙ get_or_default rs i r v low ∙ sym second)
-    (λ x cx gx full may p few off is. subst (λ (o : Remembered). IsRemembered t d c goals o) (sym first) (all i r low) h.0 x cx gx full may p few off (h.1 _ p is))
-
 pub all_untold : (rs : List Remembered) (n : ℕ) (r : Remembered) → rs ≡ replicate n r → r.is_told ≡ false → (t : Tariff) (d : Placement) (c : Color) (goals : Men) → All (IsRemembered t d c goals) rs
 all_untold rs n r e none t d c goals =
     subst (λ (xs : List Remembered). All (λ (x : Remembered). IsRemembered t d c goals x) xs) (sym e)

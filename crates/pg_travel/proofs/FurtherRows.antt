@@ -10,31 +10,9 @@ use Rattle.pg_board.specs.declared.man.Kind.TheVariants.{Pawn}
 use Rattle.pg_board.specs.Men.{number_of_kind}
 use Rattle.pg_board.specs.Placement.{Placement}
 use Rattle.pg_captures.specs.Counting.{men, any_man}
-use Rattle.pg_travel.specs.inner.DistanceRows.{IsRowFrom, IsReached, IsPieceRow, IsMask, IsUnmasked, page_start, IsFurtherIn, IsFurtherAt, AreFurther, AreFirstFurther}
-use Rattle.pg_travel.proofs.RowTables.{both_fit, kind_low, same_kind}
+use Rattle.pg_travel.specs.inner.DistanceRows.{IsRowFrom, IsReached, IsUnmasked, page_start, IsFurtherIn, IsFurtherAt, AreFurther, AreFirstFurther}
+use Rattle.pg_travel.proofs.RowTables.{both_fit, kind_low}
 use Rattle.pg_travel.proofs.MakingRows.{row_unmasked}
-
--- ---- a page
-pub in_pawns : (d : Placement) (c : Color) (n i s : ℕ) (row : List ℕ) → i < 64 → s ≡ i → IsRowFrom d c Pawn s n row → IsFurtherIn d c n i row
-in_pawns d c n i s row low e h = record {
-  pawn = λ r l is. subst (λ (x : ℕ). IsRowFrom d c Pawn x n row) (e ∙ is) h;
-  piece = λ r l is. absurd (omega (arith, low, is));
-  mask = λ k is. absurd (omega (arith, low, is));
-}
-
-pub in_pieces : (d : Placement) (c : Color) (n i s : ℕ) (row : List ℕ) → 64 ≤ i → i < 128 → s ≡ i - 64 → IsPieceRow d c s n row → IsFurtherIn d c n i row
-in_pieces d c n i s row low high e h = record {
-  pawn = λ r l is. absurd (omega (arith, low, is, l));
-  piece = λ r l is. subst (λ (x : ℕ). IsPieceRow d c x n row) (omega (arith, e, is)) h;
-  mask = λ k is. absurd (omega (arith, high, is));
-}
-
-pub in_masks : (d : Placement) (c : Color) (n i : ℕ) (a : Kind) (row : List ℕ) → 128 ≤ i → number_of_kind a ≡ i - 128 → IsMask d c a n row → IsFurtherIn d c n i row
-in_masks d c n i a row low e h = record {
-  pawn = λ r l is. absurd (omega (arith, low, is, l));
-  piece = λ r l is. absurd (omega (arith, low, is, l));
-  mask = λ k is. subst (λ (x : Kind). IsMask d c x n row) (same_kind a k (omega (arith, e, is))) h;
-}
 
 -- ---- all pages
 -- which page a place is on, and where there

@@ -199,9 +199,6 @@ off_lowered d b c off none pawns knights bishops rooks queens kings p n s r q k 
     back q l (inl (inr h)) = h.1
     back q l (inr h) = h.1
 
-pub off_all : (d b : Placement) (c : Color) (off : ℕ) (none pawns knights bishops rooks queens kings : List ℕ) → IsUnreached (men c any_man d) none → IsLowered d b c None (OfKind b c off Pawn) none pawns → IsLowered d b c None (OfKind b c off Knight) pawns knights → IsLowered d b c None (OfKind b c off Bishop) knights bishops → IsLowered d b c None (OfKind b c off Rook) bishops rooks → IsLowered d b c None (OfKind b c off Queen) rooks queens → IsLowered d b c None (OfKind b c off King) queens kings → IsLeastFrom d b c (IsOff off) kings
-off_all d b c off none pawns knights bishops rooks queens kings free p n s r q k = record { none = none; unreached = free; lowered = off_lowered d b c off none pawns knights bishops rooks queens kings p n s r q k }
-
 -- off no square are all men, and off the homes those that no way moves
 pub free_is : (d b : Placement) (c : Color) (off : ℕ) (row : List ℕ) → HasNoneFrom off 0 → IsLeastFrom d b c (IsOff off) row → IsFree d b c row
 free_is d b c off row none h = record { none = h.none; unreached = h.unreached; lowered = lowered_as d b c None (IsOff off) (λ q. q < 64) h.none row (λ q k l stands p on. (let f : has off q ≡ false = none q (omega arith) l in let g : has off q ≡ true = on in cc)) (λ q l p. l) h.lowered }

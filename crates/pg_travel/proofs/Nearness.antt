@@ -78,10 +78,6 @@ unfolding least_of
 no_king b c way t zero = refl
 no_king b c way t (suc n) = omega (arith, no_king b c way t n, either_way 64 (is_man (man c Pawn) (get b n)))
 
-pub nearest_low : (b : Placement) (c : Color) (way : Option Wing) (j : Kind) (t : ℕ) → nearest b c way j t ≤ 64
-unfolding nearest
-nearest_low b c way j t = least_le (λ o. reach_of c way j t o (get b o)) 64
-
 -- from men of the kind, and pawns where they can become of it
 pub nearest_promoted : (b : Placement) (c : Color) (way : Option Wing) (j : Kind) (t : ℕ) → is_promoted j ≡ true → nearest b c way j t ≡ min (min 64 (nearest_man b (man c j) way j t)) (nearest_man b (man c Pawn) way j t)
 unfolding nearest_man

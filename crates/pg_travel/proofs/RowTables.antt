@@ -115,9 +115,6 @@ unfolding AreRows IsRowAt
 row_at_place d e rows c k r place h same low lr is = subst (λ (x : Placement). IsRow x c k r (get_or rows place [])) same (h.1 place low c k r lr is)
 
 -- ---- a row of prices
-pub fits_none : (v row : List ℕ) (u : ℕ) → (◌≡◌ {A = ℕ} 0 0) ↔ ((j : ℕ) → j < 0 → FitsAt v u row j)
-fits_none v row u = ((λ e j l. absurd (omega arith)), (λ h. refl))
-
 pub fits_next : (v row : List ℕ) (u i above x : ℕ) → get_or v i 0 < 256 → x ≡ get_or v i 0 - u - get_or row i 0 → (above ≡ 0) ↔ ((j : ℕ) → j < i → FitsAt v u row j) → (bit_or above x ≡ 0) ↔ ((j : ℕ) → j < i + 1 → FitsAt v u row j)
 fits_next v row u i above x lv is so_far = (forth, back)
   where

@@ -163,15 +163,6 @@ pub costs_off : (b d : Placement) (c : Color) (way : Option Wing) (set q : ℕ) 
 unfolding CostsOnly
 costs_off b d c way set q h l off = h q l off
 
--- ---- sums
-pub sum_grows : (f : ℕ → ℕ) (a b : ℕ) → a ≤ b → total f a ≤ total f b
-unfolding total
-sum_grows f a zero h = let e : a ≡ 0 = omega arith in let s : total f a ≡ total f 0 = ap (total f) e in omega arith
-sum_grows f a (suc b) h = elim (eqb_tells a (suc b)) [
-  | inl w ↦ (let s : total f a ≡ total f (suc b) = ap (total f) w.1 in omega arith)
-  | inr w ↦ (let ne : a ≢ suc b = w.1 in let s : total f a ≤ total f b = sum_grows f a b (omega arith) in omega arith)
-]
-
 -- ---- a sum that begins with what is sure
 pub count_skip : (set a b : ℕ) → a ≤ b → ((q : ℕ) → a ≤ q → q < b → has set q ≡ false) → count_below (has set) b ≡ count_below (has set) a
 count_skip set a zero h none = let e : 0 ≡ a = omega arith in ap (count_below (has set)) e

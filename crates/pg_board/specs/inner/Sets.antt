@@ -149,9 +149,6 @@ shows_replaced s t i o r q l h = record {
 pub man_in-replaced : (s t : Sets) (i : ℕ) (o : Option Man) → IsSound s → Replaces s i o t → (q : ℕ) → q < 64 → man_in t q ≡ cond (eqb q i) o (man_in s q)
 man_in-replaced s t i o h r q l = shown t q _ (shows_replaced s t i o r q l (h.shows q l))
 
-pub IsSound-replaced : (s t : Sets) (i : ℕ) (o : Option Man) → IsSound s → Replaces s i o t → AreWords t → IsSound t
-IsSound-replaced s t i o h r w = record { words = w; shows = λ q l. shows_itself t q _ (shows_replaced s t i o r q l (h.shows q l)) }
-
 -- ---- the set of a kind, and of a colour
 abbrev pub set_of_kind : Sets → Kind → ℕ
 set_of_kind s Pawn = s.pawns

@@ -1,5 +1,5 @@
 -- Distances as formulas on numbers. 64 is none.
-use Rattle.std.specs.Prelude.{◌≢◌, ℕ, zero, suc, ◌+◌, ◌-◌, ◌*◌, ◌/◌, ◌%◌, ◌<◌, Bool, cond, ◌&&◌, ◌||◌, not, min, max, eqb, leb, Option, Some, None}
+use Rattle.std.specs.Prelude.{ℕ, zero, suc, ◌+◌, ◌-◌, ◌*◌, ◌/◌, ◌%◌, ◌<◌, Bool, cond, ◌&&◌, ◌||◌, not, min, max, eqb, leb, Option, Some, None}
 use Rattle.pg_board.specs.declared.man.Color.{Color}
 use Rattle.pg_board.specs.declared.man.Color.TheVariants.{White, Black}
 use Rattle.pg_board.specs.declared.man.Kind.{Kind}
@@ -49,9 +49,6 @@ piece King r s = king r s
 
 abbrev pub answer : ℕ → Option ℕ
 answer n = cond (eqb n 64) None (Some n)
-
-abbrev pub PieceLaw : Type 0
-PieceLaw = (c : Color) (k : Kind) (r s : ℕ) → k ≢ Pawn → r < 64 → s < 64 → DistanceIs c k r k s (answer (piece k r s))
 
 -- the rank as the colour counts it, 1 at its own side
 abbrev pub rank_for : Color → ℕ → ℕ

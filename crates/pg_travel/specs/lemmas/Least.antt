@@ -11,7 +11,7 @@ use Rattle.pg_travel.specs.Walks.{IsLeast}
 use Rattle.pg_captures.specs.Owed.{plies_left}
 use Rattle.pg_travel.specs.Origins.{IsWayOf}
 use Rattle.pg_travel.specs.Needs.{HasValue, IsValue, TravelTest, NeedIs, ValueIs, HeldIs, lesser}
-use Rattle.pg_travel.specs.lemmas.NeedLemmas.{one_value, test_fails}
+use Rattle.pg_travel.specs.lemmas.NeedLemmas.{one_value}
 
 abbrev Best : (ℕ → Type 0) → Option ℕ → Type 0
 Best P None = (v : ℕ) → ¬ P v
@@ -84,7 +84,3 @@ test_some p d c k n h = (
 pub held_by_value : (p : State) (d : Placement) (c : Color) (w : Wing) (o : Option ℕ) → holds p.rights c w ≡ true → ValueIs d p c (Some w) o → HeldIs d p c (Some w) o
 held_by_value p d c w None e h = λ v held value. h v value
 held_by_value p d c w (Some v) e h = (e, h)
-
--- where the plies left pay for the way without castling, the test does not hold
-pub test_paid : (p : State) (d : Placement) (c : Color) (k : ℕ) (o : Option ℕ) (v : ℕ) → ValueIs d p c None o → o ≡ Some v → v ≤ plies_left p.side c k → ¬ TravelTest d p k c
-test_paid p d c k o v h e l = test_fails p d c k v (None, tt, subst (λ (x : Option ℕ). ValueIs d p c None x) e h) l

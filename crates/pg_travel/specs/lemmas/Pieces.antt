@@ -1,5 +1,5 @@
 -- The distances of men other than pawns.
-use Rattle.std.proofs.Common.{◌≡◌, ◌≢◌, ℕ, ◌<◌, ◌≤◌, ◌⊎◌, inl, inr, Option, Some, None, true, ◌&&◌, ◌||◌, not, eqb, leb, refl, sym, ap, subst, arith, ◌∙◌}
+use Rattle.std.proofs.Common.{◌≡◌, ◌≢◌, ℕ, ◌<◌, ◌≤◌, ◌⊎◌, inl, inr, Some, None, true, ◌&&◌, ◌||◌, not, eqb, leb, refl, arith}
 use Rattle.std.proofs.lemmas.Bool.Decides.{eqb_tells, nat_tests}
 use Rattle.pg_board.specs.declared.man.Color.{Color}
 use Rattle.pg_board.specs.declared.man.Kind.{Kind}
@@ -7,11 +7,9 @@ use Rattle.pg_board.specs.declared.man.Kind.TheVariants.{Pawn, Knight, Bishop, R
 use Rattle.pg_board.specs.Squares.{file, rank}
 use Rattle.pg_position.specs.Geometry.{InPattern}
 use Rattle.pg_captures.specs.FreeSteps.{StepsTo, Becomes, FreeStep}
-use Rattle.pg_travel.specs.Walks.{DistanceIs}
-use Rattle.pg_travel.specs.inner.Formulas.{files, ranks, piece, answer, PieceLaw}
+use Rattle.pg_travel.specs.inner.Formulas.{files, ranks, piece, answer}
 use Rattle.pg_travel.specs.lemmas.PairTests.{Fits, fits}
 use Rattle.pg_travel.specs.lemmas.Tables.{knight_to, bishop_to, rook_to, queen_to, king_to, goes_to, pieces_fit}
-use Rattle.pg_travel.specs.lemmas.WalkLemmas.{Local, distance}
 
 knight_tests : (a b : ℕ) → (((eqb a 1 && eqb b 2) || (eqb a 2 && eqb b 1)) ≡ true → ((a ≡ 1) × (b ≡ 2)) ⊎ ((a ≡ 2) × (b ≡ 1))) × (((a ≡ 1) × (b ≡ 2)) ⊎ ((a ≡ 2) × (b ≡ 1)) → ((eqb a 1 && eqb b 2) || (eqb a 2 && eqb b 1)) ≡ true)
 knight_tests a b = (λ h. grind (arith, nat_tests), λ h. grind (arith, nat_tests))
@@ -58,35 +56,8 @@ piece_free c King r t ne lr lt h = (lr, lt, (pattern_tests c King r t ne).0 h, r
 pub piece_fits : (k : Kind) → k ≢ Pawn → Fits true (goes_to k) (piece k) (piece k)
 piece_fits k ne = fits true (goes_to k) (piece k) (piece k) (pieces_fit k ne)
 
-piece_local : (c : Color) (k : Kind) → k ≢ Pawn → Local c k (λ i. i ≡ k) (λ i. piece k)
-piece_local c k ne =
-    record {
-      closed = λ i i' r t e f. (piece_step c i r i' t (λ h. ne (sym e ∙ h)) f).0 ∙ e;
-      home = λ r low. (piece_fits k ne).at_home r low refl;
-      falls = λ i r s e lr ls.
-          elim ((piece_fits k ne).falls r s lr ls) [
-            | inl h ↦ inl (e, h.1)
-            | inr h ↦ inr (elim h [
-              | inl g ↦ inl g
-              | inr g ↦ inr (k, g.0, subst (λ (x : Kind). FreeStep c x r k g.0) (sym e) (piece_free c k r g.0 ne lr g.1 g.2), g.3, g.4)
-            ])
-          ];
-      steady = λ i i' r t s e ls f.
-          (let f' : FreeStep c k r i' t = subst (λ (x : Kind). FreeStep c x r i' t) e f in
-          (piece_fits k ne).steady r t s f.0 f.1 ls (piece_step c k r i' t ne f').1);
-    }
-
-pub piece_distance : PieceLaw
-piece_distance c k r s ne lr ls = distance c k (λ i. i ≡ k) (λ i. piece k) (piece_local c k ne) k r s refl lr ls
-
 pub answer_none : (n : ℕ) → n ≡ 64 → answer n ≡ None
 answer_none n e = elim (eqb_tells n 64) [ inl w ↦ rw w.0 refl | inr w ↦ absurd (w.1 e) ]
 
 pub answer_some : (n : ℕ) → n ≢ 64 → answer n ≡ Some n
 answer_some n ne = elim (eqb_tells n 64) [ inl w ↦ absurd (ne w.1) | inr w ↦ rw w.0 refl ]
-
-pub none_by_steps : (c : Color) (k : Kind) (r s n : ℕ) → k ≢ Pawn → r < 64 → s < 64 → n ≡ piece k r s → n ≡ 64 → DistanceIs c k r k s None
-none_by_steps c k r s n ne lr ls e f = subst (λ (o : Option ℕ). DistanceIs c k r k s o) (answer_none (piece k r s) (sym e ∙ f)) (piece_distance c k r s ne lr ls)
-
-pub some_by_steps : (c : Color) (k : Kind) (r s n : ℕ) → k ≢ Pawn → r < 64 → s < 64 → n ≡ piece k r s → n ≢ 64 → DistanceIs c k r k s (Some n)
-some_by_steps c k r s n ne lr ls e f = subst (λ (o : Option ℕ). DistanceIs c k r k s o) (answer_some (piece k r s) (λ g. f (e ∙ g)) ∙ ap (λ (x : ℕ). Some x) (sym e)) (piece_distance c k r s ne lr ls)

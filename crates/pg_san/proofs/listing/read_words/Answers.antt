@@ -9,21 +9,19 @@ pub loop-word-init : goal.loop-word-init
 loop-word-init c = record {
   few = omega arith;
   spelled = rw (c.new-game.ensures.items, c.array-here.ensures) (so_none (words c.args.line.now));
-  known = c.requires;
 }
 
-pub returns-in-Err-clause-read : goal.returns-in-Err-clause-read
-returns-in-Err-clause-read c =
+pub returns-in-Err : goal.returns-in-Err
+returns-in-Err c =
     let l : 0 < length c.without_move_number-text.result.now = grind (arith, nat_tests) in
-    so_bad (words c.args.line.now) (words c.loop-word.rest.now) (words c.in-Some.after.now) c.in-Some.word.now c.without_move_number-text.result.now c.loop-word.plies c.loop-word.kept c.loop-word.game.items c.loop-word.here c.in-Err.cause c.loop-word.invariant.spelled c.in-Some.ensures.0 c.without_move_number-text.ensures l c.in-Err.ensures.read
+    so_bad (words c.args.line.now) (words c.loop-word.rest.now) (words c.in-Some.after.now) c.in-Some.word.now c.without_move_number-text.result.now c.loop-word.plies c.loop-word.kept c.loop-word.game.items c.loop-word.here c.in-Err.cause c.loop-word.invariant.spelled c.in-Some.ensures.0 c.without_move_number-text.ensures l c.in-Err.ensures
 
 pub loop-word-preserved-then-not-is_empty : goal.loop-word-preserved-then-not-is_empty
 loop-word-preserved-then-not-is_empty c =
     let l : 0 < length c.without_move_number-text.result.now = grind (arith, nat_tests) in
     record {
       few = omega (arith, c.loop-word.invariant.few, c.in-Some.ensures.1);
-      spelled = so_move (words c.args.line.now) (words c.loop-word.rest.now) (words c.in-Some.after.now) c.in-Some.word.now c.without_move_number-text.result.now c.loop-word.plies c.loop-word.kept c.keep-kept.result c.loop-word.game.items c.keep-kept.new.game.items c.in-Ok.m c.loop-word.here c.read_known.new.here c.loop-word.invariant.spelled c.in-Some.ensures.0 c.without_move_number-text.ensures l c.in-Ok.ensures.read.0 c.in-Ok.ensures.read.1 c.keep-kept.ensures;
-      known = c.in-Ok.ensures.known;
+      spelled = so_move (words c.args.line.now) (words c.loop-word.rest.now) (words c.in-Some.after.now) c.in-Some.word.now c.without_move_number-text.result.now c.loop-word.plies c.loop-word.kept c.keep-kept.result c.loop-word.game.items c.keep-kept.new.game.items c.in-Ok.m c.loop-word.here c.read.new.here c.loop-word.invariant.spelled c.in-Some.ensures.0 c.without_move_number-text.ensures l c.in-Ok.ensures.0 c.in-Ok.ensures.1 c.keep-kept.ensures;
     }
 
 pub loop-word-preserved : goal.loop-word-preserved
@@ -33,11 +31,10 @@ loop-word-preserved c =
     record {
       few = omega (arith, c.loop-word.invariant.few, c.in-Some.ensures.1);
       spelled = so_skip (words c.args.line.now) (words c.loop-word.rest.now) (words c.in-Some.after.now) c.in-Some.word.now c.loop-word.plies c.loop-word.kept c.loop-word.game.items c.loop-word.here c.loop-word.invariant.spelled c.in-Some.ensures.0 nil;
-      known = c.loop-word.invariant.known;
     }
 
-pub returns-then-kept-clause-read : goal.returns-then-kept-clause-read
-returns-then-kept-clause-read c = so_kept (words c.args.line.now) (words c.loop-word.rest.now) c.loop-word.plies c.loop-word.kept c.loop-word.game.items c.loop-word.here c.loop-word.invariant.spelled c.in_default.ensures c.if-kept.true
+pub returns-then-kept : goal.returns-then-kept
+returns-then-kept c = so_kept (words c.args.line.now) (words c.loop-word.rest.now) c.loop-word.plies c.loop-word.kept c.loop-word.game.items c.loop-word.here c.loop-word.invariant.spelled c.in_default.ensures c.if-kept.true
 
-pub returns-else-kept-clause-read : goal.returns-else-kept-clause-read
-returns-else-kept-clause-read c = so_lost (words c.args.line.now) (words c.loop-word.rest.now) c.loop-word.plies c.loop-word.kept c.loop-word.game.items c.loop-word.here c.loop-word.invariant.spelled c.in_default.ensures
+pub returns-else-kept : goal.returns-else-kept
+returns-else-kept c = so_lost (words c.args.line.now) (words c.loop-word.rest.now) c.loop-word.plies c.loop-word.kept c.loop-word.game.items c.loop-word.here c.loop-word.invariant.spelled c.in_default.ensures

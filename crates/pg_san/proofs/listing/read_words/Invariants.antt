@@ -1,7 +1,5 @@
 use Rattle.std.proofs.Common.{◌≤◌, ◌+◌, length}
-use Rattle.std.specs.Prelude.{All}
 use Rattle.pg_san.specs.GameText.{words}
-use Rattle.pg_san.specs.inner.KnownReadings.{IsKnown}
 use Rattle.pg_san.proofs.WordReadingLemmas.{IsSpelledSo}
 use Rattle.pg_san.proofs.listing.read_words.Given as goal
 
@@ -9,7 +7,6 @@ abbrev pub invariant-loop-word : goal.invariant-loop-word
 invariant-loop-word l = record {
   few : l.plies + length l.rest ≤ length l.fn.line;
   spelled : IsSpelledSo (words l.fn.line) (words l.rest) l.plies l.kept l.game.items l.here;
-  known : All IsKnown l.known;
 }
 
 abbrev pub decreases-loop-word : goal.decreases-loop-word

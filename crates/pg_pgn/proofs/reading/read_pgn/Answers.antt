@@ -6,13 +6,12 @@ use Rattle.pg_pgn.specs.Steps.{at}
 use Rattle.pg_pgn.proofs.FaultLemmas.{open_fault, token_fault, end_fault, no_memory}
 use Rattle.pg_pgn.proofs.LegalLemmas.{read_legal}
 use Rattle.pg_pgn.proofs.ReadingLemmas.{read_first, deep_first, read_more, goes_deep, file_on}
-use Rattle.pg_pgn.proofs.reading.read_tokens.Goals as goal
+use Rattle.pg_pgn.proofs.reading.read_pgn.Goals as goal
 
 pub loop-letters-init : goal.loop-letters-init
 loop-letters-init c = record {
   read = read_first c.args.letters c.args.text.now (at c.begun-reading.result) c.body-rest.result.now c.begun-reading.ensures c.body-rest.ensures;
   deep = deep_first c.args.text.now (at c.begun-reading.result) c.body-rest.result.now c.begun-reading.ensures c.body-rest.ensures;
-  known = c.requires;
 }
 
 pub returns-in-Err-clause-err : goal.returns-in-Err-clause-err
@@ -33,7 +32,6 @@ loop-letters-preserved c =
     record {
       read = read_more c.args.letters c.args.text.now old new c.loop-letters.rest.now token c.in-Ok.cut.1.now c.loop-letters.invariant.read c.in-Ok.ensures.ok c.in-Ok-step.ensures.ok;
       deep = omega (arith, deep, less, c.loop-letters.invariant.deep);
-      known = c.in-Ok-step.ensures.known;
     }
 
 pub returns-then-reading-gt0-clause-err : goal.returns-then-reading-gt0-clause-err

@@ -1,16 +1,13 @@
 use Rattle.std.proofs.Common.{◌≤◌, ◌+◌, length}
-use Rattle.std.specs.Prelude.{All}
-use Rattle.pg_san.specs.inner.KnownReadings.{IsKnown}
 use Rattle.pg_san.specs.GameText.{lines}
 use Rattle.pg_san.specs.TextLeft.{lines_left, length_left}
 use Rattle.pg_san.proofs.ListingLemmas.{IsReadTo}
-use Rattle.pg_san.proofs.listing.read_lines.Given as goal
+use Rattle.pg_san.proofs.listing.read_games.Given as goal
 
 abbrev pub invariant-loop-rest : goal.invariant-loop-rest
 invariant-loop-rest l = record {
   few : l.number + length_left l.rest ≤ length l.fn.text + 1;
   read : IsReadTo (lines l.fn.text) (lines_left l.rest) l.number l.games;
-  known : All IsKnown l.known;
 }
 
 abbrev pub decreases-loop-rest : goal.decreases-loop-rest

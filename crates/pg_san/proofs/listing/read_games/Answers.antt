@@ -3,7 +3,7 @@ use Rattle.pg_san.specs.GameText.{lines}
 use Rattle.pg_san.specs.TextLeft.{lines_left, length_left}
 use Rattle.pg_san.proofs.OrderLemmas.{no_games}
 use Rattle.pg_san.proofs.ListingLemmas.{read_none, read_line_more, read_all, read_fault}
-use Rattle.pg_san.proofs.listing.read_lines.Goals as goal
+use Rattle.pg_san.proofs.listing.read_games.Goals as goal
 
 pub loop-rest-init : goal.loop-rest-init
 loop-rest-init c =
@@ -11,7 +11,6 @@ loop-rest-init c =
     record {
       few = rw same (omega arith);
       read = rw (same, c.new-games.ensures) (read_none (lines c.args.text.now) no_games);
-      known = c.requires;
     }
 
 pub loop-rest-preserved : goal.loop-rest-preserved
@@ -24,7 +23,6 @@ loop-rest-preserved c =
     record {
       few = fits;
       read = read_line_more (lines c.args.text.now) (lines_left c.loop-rest.rest) (lines_left c.next_line.result.1) c.next_line.result.0.now c.loop-rest.number c.loop-rest.games c.read_line.new.games c.loop-rest.invariant.read cut c.in-Ok.ensures.ok;
-      known = c.in-Ok.ensures.known;
     }
 
 pub returns-in-Err-clause-err : goal.returns-in-Err-clause-err
