@@ -9,7 +9,7 @@ use Rattle.clap.specs.Words.{Text}
 use Rattle.pg_cli.specs.Judging.{GivesList, IsPgnName, IsReadAs}
 use Rattle.pg_cli.specs.Runs.{IsListRefused, IsReadFault}
 use Rattle.pg_cli.specs.declared.refusals.Refusal.{Refusal}
-use Rattle.pg_cli.specs.declared.refusals.Refusal.TheVariants.{Pgn}
+use Rattle.pg_cli.specs.declared.refusals.Refusal.TheVariants.{Memory, Pgn, Read}
 
 -- whether bytes end in `.pgn` says whether the name is that of a file of games in PGN
 pub pgn_name : (name bytes : List ℕ) (r : Bool) → bytes ≡ name → r ≡ ends_with eqb bytes (codes ".pgn") → IsTrue r ↔ IsPgnName name
@@ -30,4 +30,6 @@ pub refused_there : {A : Type 0} (r : Result A Refusal) (Gives : Text → List �
 refused_there (Ok t) Gives name word given e h wrong = tt
 refused_there (Err (Pgn fault)) Gives name word given e h wrong =
     (given, subst (λ (n : List ℕ). Gives n given) e h, subst (λ (n : List ℕ). IsReadFault n given (Pgn fault)) e wrong)
-refused_there (Err refusal) Gives name word given e h wrong = wrong
+refused_there (Err Read) Gives name word given e h wrong = tt
+refused_there (Err Memory) Gives name word given e h wrong = tt
+refused_there (Err refusal) Gives name word given e h wrong = absurd wrong

@@ -29,7 +29,7 @@ use Rattle.pg_texts.specs.Upgrade.{IsUpgradeFault, upgrade_of}
 use Rattle.pg_texts.specs.declared.fault.MovesFault.TheVariants.{Write as MovesWrite}
 use Rattle.pg_texts.specs.declared.fault.CountRunFault.TheVariants.{Write as CountWrite}
 use Rattle.pg_texts.specs.declared.fault.UpgradeFault.TheVariants.{Write as CopyWrite}
-use Rattle.pg_pgn.specs.Pgn.{IsFirstFault}
+use Rattle.pg_pgn.specs.Pgn.{IsFile, IsFirstFault}
 use Rattle.pg_pgn.specs.declared.letters.Letters.TheVariants.{English}
 use Rattle.pg_report.specs.Answering.{IsUnreported}
 use Rattle.pg_report.specs.Run.{Failures, IsCheckFault, of_problem}
@@ -55,6 +55,7 @@ use Rattle.pg_cli.specs.Judging.{IsPgnName}
 use Rattle.pg_cli.specs.Knowing.{answer_status}
 use Rattle.pg_cli.specs.Refusals.{listing_refusal}
 use Rattle.pg_cli.specs.Words.{spelled, SpellsBoard}
+use Rattle.pg_cli.specs.declared.converting.TheConstants.{MOST_PROBLEMS}
 use Rattle.pg_cli.specs.declared.refusals.Reached.{Reached}
 use Rattle.pg_cli.specs.declared.refusals.Refusal.{Refusal}
 use Rattle.pg_cli.specs.declared.refusals.Refusal.TheVariants.{Open, NoGame, NotUtf8, Read, Write, Memory, Line as NoLine, Show, Moves, Count, Search, Full, Late, GaveUp, Upgrade, Check, Answer, Tariffs, Pgn}
@@ -68,12 +69,16 @@ IsOfFile Write = Unit {0}
 IsOfFile Memory = Unit {0}
 IsOfFile refusal = ⊥
 
--- so it is, or the name is that of a file of games in PGN, and its bytes are refused by their first fault
+-- the bytes that were read are no list of problems: the name is that of a file of games in PGN, and they are refused by
+-- their first fault, or have more games than such a list; or memory was refused
 abbrev pub IsReadFault : Text → List ℕ → Refusal → Type 0
 IsReadFault name given (Pgn fault) = IsPgnName name × IsFirstFault English given fault
-IsReadFault name given refusal = IsOfFile refusal
+IsReadFault name given Read =
+    IsPgnName name × ((games : List (List Move)) × IsFile English given games × MOST_PROBLEMS < length_of_list games)
+IsReadFault name given Memory = Unit {0}
+IsReadFault name given refusal = ⊥
 
--- so it is of bytes that the name gives, as `pg judge` reads them
+-- a file is not read; or so it is of bytes that the name gives, as `pg judge` reads them
 abbrev pub IsListRefused : (Text → List ℕ → Type 0) → Text → Refusal → Type 0
 IsListRefused Gives name (Pgn fault) = (given : List ℕ) × Gives name given × IsReadFault name given (Pgn fault)
 IsListRefused Gives name refusal = IsOfFile refusal

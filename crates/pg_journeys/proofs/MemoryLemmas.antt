@@ -109,6 +109,10 @@ pub all_untold : (rs : List Remembered) (n : ℕ) (r : Remembered) → rs ≡ re
 all_untold rs n r e none d =
     subst (λ (xs : List Remembered). All (λ (x : Remembered). IsRemembered d x) xs) (sym e) (All-replicate (λ (x : Remembered). IsRemembered d x) n r (λ told. absurd (not_both r.is_told told none)))
 
+-- what is remembered at a place, where it is told
+pub told_there : (d : Placement) (rs : List Remembered) (i : ℕ) (r : Remembered) → All (IsRemembered d) rs → i < length rs → r ≡ get_or rs i r → r.is_told ≡ true → IsAnswer d r.case r.shown
+told_there d rs i r all low is told = subst (λ (x : Remembered). IsRemembered d x) (sym is) (all i r low) told
+
 -- ---- what a memory lends, and what it takes back
 pub same_diagram : (d e : Placement) (differ : Bool) → differ ≡ not (placement_eq d e) → differ ≡ false → d ≡ e
 same_diagram d e differ is none = (placement_eq_decides d e).0 (not-false (placement_eq d e) (sym is ∙ none))

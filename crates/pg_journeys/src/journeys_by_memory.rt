@@ -21,7 +21,7 @@ pub struct JourneysByMemory {
 }
 
 impl JourneysByMemory {
-    /// The bound for the way to a diagram. What it takes, some 3 MB, is taken from `alloc`.
+    /// The bound for the way to a diagram. What it takes, some 3 MB and up to 12 MB later, is taken from `alloc`.
     ///
     /// # Errors
     /// Where memory is refused.

@@ -31,9 +31,20 @@ use pg_position::{Position, Wing};
 use std::alloc::{AllocError, Global};
 use std::marker::Model;
 
-// How many cases are remembered at most, and how many tables of steps.
-const MOST_CASES: usize = 16_384;
+// For how many cases there is room at first, and at most: a power of two.
+const FIRST_CASES: usize = 16_384;
 
+const MOST_CASES: usize = 65_536;
+
+// How many places a case may have, one behind another: a power of two.
+const PLACES: usize = 4;
+
+// After how many calls it is seen whether room is wanted, and by how many places.
+const CALLS: u32 = 256;
+
+const SEEN: usize = 1024;
+
+// How many tables of steps are remembered at most.
 const MOST_TABLES: usize = 64;
 
 // What is asked of a colour: what its plans show in `left` plies from a position, under facts.
@@ -172,8 +183,8 @@ fn tells(kept: &Remembered, case: &Case) -> bool
     kept.is_told && are_alike(&kept.case, case)
 }
 
-// The place where a case is remembered, and no other is looked for.
-fn place_of(case: &Case) -> usize {
+// The first of the places where a case may be remembered, in room for this many.
+fn first_place(case: &Case, room: usize) -> usize {
     let own = case.position.board().squares_of_color(case.color).bits();
     let facts = case.facts.still.bits()
         ^ case.facts.white.bits().rotate_left(21)
@@ -182,11 +193,11 @@ fn place_of(case: &Case) -> usize {
     let number = own.wrapping_mul(0xff51_afd7_ed55_8ccd)
         ^ facts.wrapping_mul(0xc4ce_b9fe_1a85_ec53)
         ^ u64::from(plies).wrapping_mul(0x9e37_79b9_7f4a_7c15);
-    (number >> 50) as usize % MOST_CASES
+    (number >> 32) as usize & room.wrapping_sub(1) & !(PLACES - 1)
 }
 
-// What is remembered at the place of a case that is alike.
-fn recall<'a>(shown: &'a [Remembered], place: usize, case: &Case) -> Option<&'a Remembered>
+// What is remembered at a place of a case that is alike.
+fn recall_at<'a>(shown: &'a [Remembered], place: usize, case: &Case) -> Option<&'a Remembered>
     ensures { (d : Placement) → All (IsRemembered d) shown.now →
         IfSome result (λ r. IsAnswer d case.now r.now.shown) }
 {
@@ -196,11 +207,38 @@ fn recall<'a>(shown: &'a [Remembered], place: usize, case: &Case) -> Option<&'a 
     None
 }
 
-// Remembers what a case shows at its place, if there is one, in the place of what was remembered there.
-fn remember(shown: &mut [Remembered], place: usize, case: &Case, answer: &Option<Shown>)
+// What is remembered of a case that is alike.
+fn recall<'a>(shown: &'a [Remembered], case: &Case) -> Option<&'a Remembered>
+    ensures { (d : Placement) → All (IsRemembered d) shown.now →
+        IfSome result (λ r. IsAnswer d case.now r.now.shown) }
+{
+    let first = first_place(case, shown.len());
+    for i in 0..PLACES {
+        if let Some(kept) = recall_at(shown, first | i, case) {
+            return Some(kept);
+        }
+    }
+    None
+}
+
+// The first of the places of a case that says nothing, or else the first.
+fn place_for(shown: &[Remembered], case: &Case) -> usize {
+    let first = first_place(case, shown.len());
+    for i in 0..PLACES {
+        let place = first | i;
+        if place < shown.len() && !shown[place].is_told {
+            return place;
+        }
+    }
+    first
+}
+
+// Remembers what a case shows at one of its places, if there is one, in the place of what was remembered there.
+fn remember(shown: &mut [Remembered], case: &Case, answer: &Option<Shown>)
     ensures { (d : Placement) → All (IsRemembered d) shown.old → IsAnswer d case.now answer.now →
         All (IsRemembered d) shown.new }
 {
+    let place = place_for(shown, case);
     if place < shown.len() {
         shown[place] = Remembered {
             case: *case,
@@ -227,12 +265,11 @@ pub(crate) fn shown_in(
         facts: round.facts,
         color,
     };
-    let place = place_of(&case);
-    if let Some(kept) = recall(shown, place, &case) {
+    if let Some(kept) = recall(shown, &case) {
         return kept.shown;
     }
     let answer = shown_of(course, round, color);
-    remember(shown, place, &case, &answer);
+    remember(shown, &case, &answer);
     answer
 }
 
@@ -293,6 +330,52 @@ fn room_for_cases(alloc: Global, count: usize) -> Result<Vec<Remembered>, AllocE
     Ok(room)
 }
 
+// Whether about half of the room for cases is taken, by the first of its places.
+fn is_half_taken(shown: &[Remembered]) -> bool {
+    let mut taken = 0usize;
+    for kept in shown.iter().take(SEEN) {
+        if kept.is_told {
+            taken = taken.saturating_add(1);
+        }
+    }
+    taken >= SEEN / 2
+}
+
+// Remembers all that is remembered elsewhere, as far as there is room.
+fn remember_all(shown: &mut [Remembered], others: &[Remembered])
+    ensures { (d : Placement) → All (IsRemembered d) shown.old → All (IsRemembered d) others.now →
+        All (IsRemembered d) shown.new }
+{
+    for other in others {
+        if other.is_told {
+            remember(shown, &other.case, &other.shown);
+        }
+    }
+}
+
+// The same cases in twice the room.
+fn in_twice_the_room(alloc: Global, shown: &[Remembered]) -> Result<Vec<Remembered>, AllocError>
+    ensures { IfOk result (λ room. (d : Placement) → All (IsRemembered d) shown.now →
+        All (IsRemembered d) room.items) }
+{
+    let mut room = room_for_cases(alloc, shown.len().saturating_mul(2))?;
+    remember_all(room.as_mut_slice(), shown);
+    Ok(room)
+}
+
+// Makes twice the room for cases where about half of it is taken and more may be had; where memory is refused it stays.
+// Looks after it at one call of many.
+fn make_room(alloc: Global, calls: u32, shown: &mut Vec<Remembered>)
+    ensures { (d : Placement) → All (IsRemembered d) shown.old.items → All (IsRemembered d) shown.new.items }
+{
+    if calls % CALLS != 0 || shown.len() >= MOST_CASES || !is_half_taken(shown.as_slice()) {
+        return;
+    }
+    if let Ok(room) = in_twice_the_room(alloc, shown.as_slice()) {
+        *shown = room;
+    }
+}
+
 // Room for tables, each of which is the one where no square is still.
 fn room_for_steps(alloc: Global) -> Result<Vec<Steps>, AllocError> {
     let steps = steps_of(SquareSet::empty());
@@ -303,11 +386,13 @@ fn room_for_steps(alloc: Global) -> Result<Vec<Steps>, AllocError> {
 }
 
 /// What the plans of colours showed in positions on the way to a diagram, and where men step, for a bound that is asked
-/// of one position after the other: some 3 MB, made once. Contracts see it as the placement of the diagram. What is
-/// remembered changes no answer: it is used where a colour has the same men, rights, plies and captures to make, under
-/// the same facts.
+/// of one position after the other: some 3 MB at first, and up to 12 MB as more is shown. Contracts see it as the
+/// placement of the diagram. What is remembered changes no answer: it is used where a colour has the same men, rights,
+/// plies and captures to make, under the same facts.
 #[derive(Drop)]
 pub struct Memory {
+    alloc: Global,
+    calls: u32,
     diagram: Diagram,
     shown: Vec<Remembered>,
     steps: Vec<Steps>,
@@ -329,16 +414,19 @@ impl Model for Memory {
 }
 
 impl Memory {
-    /// A memory of nothing, for the way to a diagram. What it takes is taken from `alloc`.
+    /// A memory of nothing, for the way to a diagram. What it takes is taken from `alloc`, also where it grows; where
+    /// that is refused, it goes on with what it has.
     ///
     /// # Errors
     /// Where memory is refused.
     pub fn new(alloc: Global, diagram: &Diagram) -> Result<Memory, AllocError>
         ensures { IfOk result (λ memory. memory ≡ diagram.now) }
     {
-        let shown = room_for_cases(alloc, MOST_CASES)?;
+        let shown = room_for_cases(alloc, FIRST_CASES)?;
         let steps = room_for_steps(alloc)?;
         Ok(Memory {
+            alloc,
+            calls: 0,
             diagram: *diagram,
             shown,
             steps,
@@ -359,6 +447,8 @@ impl Memory {
         if self.diagram != *diagram {
             return facts_by(diagram, position, left, aims.known(), &mut [], &mut []);
         }
+        self.calls = self.calls.wrapping_add(1);
+        make_room(self.alloc, self.calls, &mut self.shown);
         facts_by(
             diagram,
             position,

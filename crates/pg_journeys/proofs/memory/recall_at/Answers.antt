@@ -1,7 +1,7 @@
 use Rattle.std.proofs.Common.{◌<◌, length, arith}
 use Rattle.std.proofs.lemmas.Bool.Decides.{nat_tests}
 use Rattle.pg_journeys.proofs.MemoryLemmas.{recalled}
-use Rattle.pg_journeys.proofs.memory.recall.Goals as goal
+use Rattle.pg_journeys.proofs.memory.recall_at.Goals as goal
 
 pub returns-then-tells : goal.returns-then-tells
 returns-then-tells c = λ d all.
