@@ -1,6 +1,6 @@
 //! `pg answer`: the games that a certificate proves are reported, or written as PGN, without a list.
 
-ghost use Rattle.std.specs.Prelude.{◌≡◌, IfOk, IfErr};
+ghost use Rattle.std.specs.Prelude.{◌≡◌, codes, IfOk, IfErr};
 ghost use Rattle.pg_checker.specs.Cuts.{any_rules_by, rules_by};
 ghost use Rattle.pg_checker.specs.Opening.{bytes_of};
 ghost use Rattle.pg_checker.specs.Terms.{terms};
@@ -9,7 +9,7 @@ ghost use Rattle.pg_report.specs.Run.{failures};
 ghost use Rattle.pg_streams.specs.Buffer.{sink_of};
 ghost use Rattle.pg_cli.specs.Answers.{HasAnswer, HasSentAnswer, IsHandedAnswer};
 ghost use Rattle.pg_cli.specs.Runs.{IsAnswerRefusal, IsOfSink};
-ghost use Rattle.pg_cli.specs.Words.{ByRecords};
+ghost use Rattle.pg_cli.specs.Words.{ByRecords, Says};
 
 use crate::checking::finished;
 use crate::refusals::Refusal;
@@ -103,7 +103,13 @@ pub(crate) fn answer_told<S: Source, W: Sink>(
     source: &mut S,
     out: &mut Gathered<W>,
 ) -> Result<u8, Refusal>
-    ensures { IfOk result (λ status. HasAnswer opened.old.diagram opened.old.plies status) }
+    ensures headline { IfOk result (λ status. HasAnswer opened.old.diagram opened.old.plies status) }
+    ensures pgn { Says (codes "pgn") (rows_of (found_of words.now)) → IfOk result (λ status. HasSentAnswer
+        opened.old.diagram opened.old.plies (⟦<Gathered<W> as Sink>⟧.held out.old) (W.held (sink_of out.new)) status) }
+    ensures report { ¬ Says (codes "pgn") (rows_of (found_of words.now)) → IfOk result (λ status.
+        ByRecords (rows_of (found_of words.now)) (λ records. IsHandedAnswer
+        (terms (rules_by code_of excluded bounds.now) records MOST_NAMED (bytes_of opened.old (S.left source.old)))
+        opened.old.diagram opened.old.plies (⟦<Gathered<W> as Sink>⟧.held out.old) (W.held (sink_of out.new)) status)) }
 {
     if say_pgn(words) {
         return answer_as_pgn(alloc, words, opened, bounds, source, out);

@@ -1,6 +1,6 @@
 //! `pg check`: a certificate is checked for a problem and a list of games.
 
-ghost use Rattle.std.specs.Prelude.{◌≡◌, true, IfOk, IfErr, OnOk};
+ghost use Rattle.std.specs.Prelude.{◌≡◌, true, codes, IfOk, IfErr, OnOk};
 ghost use Rattle.std.specs.Io.KnownBytes.{Keeps};
 ghost use Rattle.clap.specs.Words.{found_of, rows_of};
 ghost use Rattle.pg_certificate.specs.Pushing.{AddsSome};
@@ -13,7 +13,7 @@ ghost use Rattle.pg_streams.specs.Buffer.{IsHandedOn, sink_of};
 ghost use Rattle.pg_texts.specs.Report.{IsReport};
 ghost use Rattle.pg_cli.specs.Answers.{IsAnswered, OfGiven};
 ghost use Rattle.pg_cli.specs.Runs.{IsFoundRefusal, IsOfSink, IsRefusedFor, IsUnchecked};
-ghost use Rattle.pg_cli.specs.Words.{ByRecords, IsChecked};
+ghost use Rattle.pg_cli.specs.Words.{ByRecords, IsChecked, Says};
 
 use crate::asked::Carrying;
 use crate::knowing::{Listed, read_listed};
@@ -165,6 +165,11 @@ fn check_told<S: Source, W: Sink>(
 ) -> Result<u8, Refusal>
     ensures headline { IfOk result (λ status. IsAnswered listed.now.problem.diagram listed.now.problem.length
         listed.now.games status) }
+    ensures pgn { Says (codes "pgn") (rows_of (found_of words.now)) → OnOk result (AddsSome (IsPgnText listed.now.games)
+        (⟦<Gathered<W> as Sink>⟧.held out.old) (W.held (sink_of out.new))) }
+    ensures report { ¬ Says (codes "pgn") (rows_of (found_of words.now)) → OnOk result (AddsSome
+        (IsReport listed.now.problem.diagram listed.now.problem.length listed.now.games)
+        (⟦<Gathered<W> as Sink>⟧.held out.old) (W.held (sink_of out.new))) }
     ensures found { IfErr result (λ refusal. (t : Terms) × (failed : Failures) × IsFoundRefusal
         listed.now.problem.diagram listed.now.problem.length listed.now.games t failed refusal) }
 {

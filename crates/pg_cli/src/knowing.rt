@@ -1,5 +1,6 @@
 //! `pg games` and `pg cooks`: what a list of games shows by itself, and what is found beside it.
-ghost use Rattle.std.specs.Prelude.{◌≡◌, ℕ, List, Ok, IfOk, IfErr, OnOk};
+ghost use Rattle.std.specs.Prelude.{◌≡◌, ℕ, List, Ok, codes, IfOk, IfErr, OnOk};
+ghost use Rattle.clap.specs.Words.{found_of, rows_of};
 ghost use Rattle.pg_certificate.specs.Pushing.{AddsSome};
 ghost use Rattle.pg_cooks.specs.Standing.{IsGamesReport};
 ghost use Rattle.pg_cooks.specs.Unsound.{IsUnsound};
@@ -9,7 +10,7 @@ ghost use Rattle.pg_streams.specs.Buffer.{sink_of};
 ghost use Rattle.pg_cli.specs.Answers.{OfGiven};
 ghost use Rattle.pg_cli.specs.Knowing.{IsFollowedWith, IsTestedWith, answer_status, standing_status};
 ghost use Rattle.pg_cli.specs.Runs.{HasCooksReport, IsCooksRefusal, IsGamesRefusal, IsOfList, IsUnlisted, cooks_refusal};
-ghost use Rattle.pg_cli.specs.Words.{says_of_problem};
+ghost use Rattle.pg_cli.specs.Words.{Says, says_of_problem};
 ghost use Rattle.pg_cli.specs.declared.commands.ProblemCommand.TheVariants.{Games as TheGames, Cooks as TheCooks};
 
 use crate::checking::finished;
@@ -185,8 +186,13 @@ fn games_told<W: Sink>(
     listed: &Listed,
     out: &mut Gathered<W>,
 ) -> Result<u8, Refusal>
-    ensures { IfOk result (λ status. IsTestedWith listed.now.problem.diagram listed.now.problem.length
+    ensures status { IfOk result (λ status. IsTestedWith listed.now.problem.diagram listed.now.problem.length
         listed.now.games status) }
+    ensures pgn { Says (codes "pgn") (rows_of (found_of words.now)) → OnOk result (AddsSome (IsPgnText listed.now.games)
+        (⟦<Gathered<W> as Sink>⟧.held out.old) (W.held (sink_of out.new))) }
+    ensures report { ¬ Says (codes "pgn") (rows_of (found_of words.now)) → OnOk result (AddsSome
+        (IsGamesReport listed.now.problem.diagram listed.now.problem.length listed.now.games)
+        (⟦<Gathered<W> as Sink>⟧.held out.old) (W.held (sink_of out.new))) }
 {
     if say_pgn(words) {
         return games_as_pgn(&listed.problem, &listed.games, out);

@@ -15,7 +15,7 @@ ghost use Rattle.pg_cli.specs.declared.refusals.Refusal.TheVariants.{Check};
 use crate::checking::finished;
 use crate::judging::{Orders, Place, Spoiled};
 use crate::refusals::{DONE, Refusal};
-use pg_certificate::{ToWrite, WriteFault};
+use pg_certificate::{Refused, ToWrite};
 use pg_files::{Draft, FileFault, begin_here, is_missing};
 use pg_judge::{Entry, Evidence, Finding};
 use pg_pgn::{write_pgn, write_pgn_and};
@@ -45,7 +45,7 @@ fn write_evidence<W: Sink>(
     entry: &Entry<'_>,
     evidence: &Evidence,
     out: &mut W,
-) -> Result<(), WriteFault>
+) -> Result<(), Refused>
     requires { IsWritable evidence.now }
     ensures { OnOk result (AddsSome (IsPgnText (games_of entry.now.games (NotSound evidence.now)))
         (W.held out.old) (W.held out.new)) }
@@ -60,12 +60,12 @@ fn write_evidence<W: Sink>(
 // Writes the games that are told of what is found of a problem, as PGN; none where it is not settled.
 //
 // # Errors
-// `Write` where the sink has failed.
+// `Refused` where the sink has failed.
 pub(crate) fn write_found<W: Sink>(
     entry: &Entry<'_>,
     finding: &Finding,
     out: &mut W,
-) -> Result<(), WriteFault>
+) -> Result<(), Refused>
     requires { IsFindingOf entry.now finding.now }
     ensures { OnOk result (AddsSome (IsPgnText (games_of entry.now.games finding.now))
         (W.held out.old) (W.held out.new)) }

@@ -1,11 +1,10 @@
 -- The text of a game grows by one move more, and that of games by one game.
-use Rattle.std.proofs.Common.{◌≡◌, ◌≢◌, ℕ, suc, ◌+◌, ◌<◌, ◌≤◌, List, [], ◌∷◌, ◌++◌, Option, Some, length, length-drop, get_or, take, drop, refl, sym, ap, subst, arith, append_assoc, append-nil, ◌∙◌}
+use Rattle.std.proofs.Common.{◌≡◌, ◌≢◌, ℕ, suc, ◌+◌, ◌<◌, ◌≤◌, List, [], ◌∷◌, ◌++◌, Option, Some, length, get_or, take, drop, refl, sym, ap, subst, arith, append_assoc, append-nil, ◌∙◌}
 use Rattle.std.proofs.KnownBytes.{Appends-nil, Appends-trans}
 use Rattle.std.proofs.lemmas.List.{take_more, take_all, take-append-drop, length-take-le}
-use Rattle.std.proofs.lemmas.Grind.{get_or_after_one}
 use Rattle.std.proofs.lemmas.Option.{get_or_from_slice_get}
 use Rattle.std.proofs.Math.Seq.{drop-cons}
-use Rattle.std.specs.Prelude.{codes, Result, Ok, Err, OnOk, IfOk, slice_get, ◌-◌}
+use Rattle.std.specs.Prelude.{codes, Result, Ok, Err, OnOk, IfOk, slice_get}
 use Rattle.std.specs.Io.KnownBytes.{Appends}
 use Rattle.pg_certificate.specs.Pushing.{AddsSome}
 use Rattle.pg_position.specs.declared.state.State.{State}
@@ -106,10 +105,6 @@ unfolding IsGameText
 game_text game k a b c d e front (p, (text, moves, grows)) star feed =
     (tags ++ (text ++ (spaced k (codes "*") ++ codes "\n")), (k, p, text, moves, refl), Appends-trans a b e tags (text ++ (spaced k (codes "*") ++ codes "\n")) front (Appends-trans b c e text (spaced k (codes "*") ++ codes "\n") grows (Appends-trans c d e (spaced k (codes "*")) (codes "\n") star feed)))
 
-pub no_further : (a : Option (List ℕ)) → AddsSome (AreFurther []) a a
-unfolding AreFurther
-no_further a = ([], refl, Appends-nil a)
-
 further_more : (gs : List (List Move)) (g : List Move) (text own : List ℕ) → AreFurther gs text → IsGameText g own → AreFurther (gs ++ g ∷ []) (text ++ (codes "\n" ++ own))
 unfolding AreFurther
 further_more [] g text own none is =
@@ -117,24 +112,21 @@ further_more [] g text own none is =
 further_more (x ∷ xs) g text own (first, rest, said, more, e) is =
     (first, rest ++ (codes "\n" ++ own), said, further_more xs g rest own more is, ap (λ (l : List ℕ). l ++ (codes "\n" ++ own)) e ∙ around (codes "\n") first rest (codes "\n" ++ own))
 
-pub one_further : (gs : List (List Move)) (g : List Move) (a b c d : Option (List ℕ)) → AddsSome (AreFurther gs) a b → Appends b c (codes "\n") → AddsSome (IsGameText g) c d → AddsSome (AreFurther (gs ++ g ∷ [])) a d
-one_further gs g a b c d (text, further, grows) feed (own, is, more) =
-    (text ++ (codes "\n" ++ own), further_more gs g text own further is, Appends-trans a b d text (codes "\n" ++ own) grows (Appends-trans b c d (codes "\n") own feed more))
-
-pub no_games : (games : List (List Move)) (a : Option (List ℕ)) → games ≡ [] → AddsSome (IsPgnText games) a a
+pub no_games : (a : Option (List ℕ)) → AddsSome (IsPgnText []) a a
 unfolding IsPgnText
-no_games games a none = ([], subst (λ (x : List (List Move)). IsPgnText x []) (sym none) refl, Appends-nil a)
+no_games a = ([], refl, Appends-nil a)
 
-pub all_games : (games : List (List Move)) (g : List Move) (gs : List (List Move)) (a b c : Option (List ℕ)) → games ≡ g ∷ gs → AddsSome (IsGameText g) a b → AddsSome (AreFurther gs) b c → AddsSome (IsPgnText games) a c
-unfolding IsPgnText
-all_games games g gs a b c e (own, is, grows) (rest, further, more) =
-    (own ++ rest, subst (λ (x : List (List Move)). IsPgnText x (own ++ rest)) (sym e) (own, rest, is, further, refl), Appends-trans a b c own rest grows more)
-
--- a game alone
-pub one_game : (games : List (List Move)) (g : List Move) (a b : Option (List ℕ)) → games ≡ [] → AddsSome (IsGameText g) a b → AddsSome (IsPgnText (games ++ g ∷ [])) a b
+pgn_alone : (games : List (List Move)) (g : List Move) (text own : List ℕ) → games ≡ [] → IsPgnText games text → IsGameText g own → IsPgnText (games ++ g ∷ []) (text ++ own)
 unfolding IsPgnText AreFurther
-one_game games g a b none (own, is, grows) =
-    (own, subst (λ (x : List (List Move)). IsPgnText (x ++ g ∷ []) own) (sym none) (own, [], is, refl, sym (append-nil own)), grows)
+pgn_alone [] g text own none are is = (own, [], is, refl, ap (λ (l : List ℕ). l ++ own) are ∙ sym (append-nil own))
+pgn_alone (x ∷ xs) g text own none are is = absurd cc
+
+-- a game behind none
+pub game_alone : {A E : Type 0} (games : List (List Move)) (g : List Move) (a b c : Option (List ℕ)) (r : Result A E) → games ≡ [] → AddsSome (IsPgnText games) a b
+    → OnOk r (AddsSome (IsGameText g) b c) → OnOk r (AddsSome (IsPgnText (games ++ g ∷ [])) a c)
+game_alone games g a b c (Ok x) none (text, are, grows) (own, is, more) =
+    (text ++ own, pgn_alone games g text own none are is, Appends-trans a b c text own grows more)
+game_alone games g a b c (Err e) none before h = h
 
 pgn_more : (games : List (List Move)) (g : List Move) (text own : List ℕ) → games ≢ [] → IsPgnText games text → IsGameText g own → IsPgnText (games ++ g ∷ []) (text ++ (codes "\n" ++ own))
 unfolding IsPgnText
@@ -146,10 +138,17 @@ pgn_more (x ∷ xs) g text own some (first, rest, said, more, e) is =
 pub some_games : (games : List (List Move)) (n : ℕ) → n ≡ length games → n ≢ 0 → games ≢ []
 some_games games n many some none = some (many ∙ ap (λ (x : List (List Move)). length x) none)
 
--- games, and one behind them
-pub games_and : (games : List (List Move)) (g : List Move) (a b c d : Option (List ℕ)) → games ≢ [] → AddsSome (IsPgnText games) a b → Appends b c (codes "\n") → AddsSome (IsGameText g) c d → AddsSome (IsPgnText (games ++ g ∷ [])) a d
-games_and games g a b c d some (text, are, grows) feed (own, is, more) =
+-- a game behind some
+pub game_behind : {A E : Type 0} (games : List (List Move)) (g : List Move) (a b c d : Option (List ℕ)) (r : Result A E) → games ≢ [] → AddsSome (IsPgnText games) a b → Appends b c (codes "\n")
+    → OnOk r (AddsSome (IsGameText g) c d) → OnOk r (AddsSome (IsPgnText (games ++ g ∷ [])) a d)
+game_behind games g a b c d (Ok x) some (text, are, grows) feed (own, is, more) =
     (text ++ (codes "\n" ++ own), pgn_more games g text own some are is, Appends-trans a b d text (codes "\n" ++ own) grows (Appends-trans b c d (codes "\n") own feed more))
+game_behind games g a b c d (Err e) some before feed h = h
+
+-- one more of the first games
+pub one_more_game : (gs : List (List Move)) (i : ℕ) (g : List Move) → i < length gs → slice_get gs i ≡ Some g → take (i + 1) gs ≡ take i gs ++ g ∷ []
+one_more_game gs i g low is =
+    take_more gs i g low ∙ ap (λ (x : List Move). take i gs ++ x ∷ []) (get_or_from_slice_get gs i g g is)
 
 -- ---- answers
 pub on_ok : {A E : Type 0} (r : Result A E) (P Q : Type 0) → (P → Q) → OnOk r P → OnOk r Q
@@ -165,18 +164,3 @@ ply_written (Ok j) n ply mid p m san word a b c is same number at text columned 
   columned ∙ ap (λ (x : ℕ). columns x (length word)) at,
   Appends-trans a b c (number_text n ply) (spaced (number_columns n ply) word) number (subst (λ (x : ℕ). Appends b c (spaced x word)) at text),
 )
-
--- the game at i comes behind those before it, the first apart
-pub further_at : (gs : List (List Move)) (i : ℕ) (g : List Move) → 1 ≤ i → i < length gs → slice_get gs i ≡ Some g → take (i + 1 - 1) (drop 1 gs) ≡ take (i - 1) (drop 1 gs) ++ g ∷ []
-further_at gs i g low high is =
-    let l : length (drop 1 gs) ≡ length gs - 1 = length-drop 1 gs in
-    let within : i - 1 < length (drop 1 gs) = omega (arith, l, low, high) in
-    let k : i + 1 - 1 ≡ (i - 1) + 1 = omega (arith, low) in
-    let more : take ((i - 1) + 1) (drop 1 gs) ≡ take (i - 1) (drop 1 gs) ++ get_or (drop 1 gs) (i - 1) g ∷ [] = take_more (drop 1 gs) (i - 1) g within in
-    let same : 1 + (i - 1) ≡ i = omega (arith, low) in
-    let at : get_or (drop 1 gs) (i - 1) g ≡ g = get_or_after_one gs (i - 1) g ∙ ap (λ (x : ℕ). get_or gs x g) same ∙ get_or_from_slice_get gs i g g is in
-    ap (λ (x : ℕ). take x (drop 1 gs)) k ∙ more ∙ ap (λ (x : List Move). take (i - 1) (drop 1 gs) ++ x ∷ []) at
-
-pub first_of : (gs : List (List Move)) (g : List Move) → slice_get gs 0 ≡ Some g → gs ≡ g ∷ drop 1 gs
-first_of [] g e = absurd cc
-first_of (x ∷ xs) g e = ap (λ (y : List Move). y ∷ xs) (get_or_from_slice_get (x ∷ xs) 0 g x e)

@@ -1,13 +1,13 @@
 //! Writing games.
-ghost use Rattle.std.specs.Prelude.{◌≡◌, ◌+◌, ◌<◌, ◌≤◌, ◌++◌, ◌∷◌, [], length, drop, IfOk, IfErr, OnOk, OnErr, MatchOption, IfSome, Some, slice_get, true, false};
+ghost use Rattle.std.specs.Prelude.{◌≡◌, ℕ, ◌+◌, ◌<◌, ◌≤◌, List, Option, ◌++◌, ◌∷◌, [], length, IfOk, OnOk, OnErr, true, false};
 ghost use Rattle.pg_certificate.specs.Pushing.{Adds, AddsSome, MayPush, Pushes};
 ghost use Rattle.pg_position.specs.Step.{Legal};
 ghost use Rattle.pg_san.specs.Games.{IsFromArray};
 ghost use Rattle.pg_pgn.specs.Writing.{gap, columns, spaced, number, number_text, number_columns, IsGameText};
-ghost use Rattle.pg_pgn.specs.Writing.{AreFurther, IsPgnText, AddsPly, AddsAllMoves};
+ghost use Rattle.pg_pgn.specs.Writing.{IsPgnText, AddsPly, AddsAllMoves};
 
 use arrayvec::ArrayString;
-use pg_certificate::{Refused, Sink, WriteFault};
+use pg_certificate::{Refused, Sink};
 use pg_fen::text::{digits, put};
 use pg_position::{Move, Position};
 use pg_san::{Games, write_with};
@@ -123,8 +123,12 @@ fn write_moves<W: Sink>(game: &[Move], out: &mut W) -> Result<usize, Refused>
     Ok(n)
 }
 
-// Appends the text of a game.
-fn append_game<W: Sink>(game: &[Move], out: &mut W) -> Result<(), Refused>
+/// Writes a game from the initial array: the seven tags of which nothing is known, an empty line, and the movetext in
+/// lines below 80 columns, which end in `*`. Takes no memory.
+///
+/// # Errors
+/// `Refused` where the sink has failed.
+pub fn write_game<W: Sink>(game: &[Move], out: &mut W) -> Result<(), Refused>
     requires { IsFromArray game.now }
     ensures { Pushes W.held W.has_failed (AddsSome (IsGameText game.now)) out.old out.new result }
 {
@@ -134,98 +138,46 @@ fn append_game<W: Sink>(game: &[Move], out: &mut W) -> Result<(), Refused>
     out.push(b"\n")
 }
 
-// Appends the games but the first.
-fn append_further<W: Sink>(games: &Games, out: &mut W) -> Result<(), Refused>
-    ensures { MayPush W.held W.has_failed (AddsSome (AreFurther (drop 1 games.now))) out.old out.new result }
-{
-    for i in 1..games.len() {
-        let game = match games.game(i) {
-            Some(game) => game,
-            None => return Ok(()),
-        };
-        out.push(b"\n")?;
-        append_game(game, out)?;
-    }
-    Ok(())
-}
-
-// The first game of a list.
-fn first_of(games: &Games) -> Option<&[Move]>
-    ensures first { MatchOption result (length games.now ≡ 0) (λ g. slice_get games.now 0 ≡ Some g.now) }
-    ensures legal { IfSome result (λ g. IsFromArray g.now) }
-{
-    if games.len() == 0 {
-        return None;
-    }
-    games.game(0)
-}
-
-fn append_games<W: Sink>(games: &Games, out: &mut W) -> Result<(), Refused>
-    ensures { MayPush W.held W.has_failed (AddsSome (IsPgnText games.now)) out.old out.new result }
-{
-    match first_of(games) {
-        None => Ok(()),
-        Some(first) => {
-            append_game(first, out)?;
-            append_further(games, out)
-        }
-    }
-}
-
-// Appends the games, and another one behind them.
-fn append_and<W: Sink>(games: &Games, last: &[Move], out: &mut W) -> Result<(), Refused>
-    requires { IsFromArray last.now }
-    ensures { Pushes W.held W.has_failed (AddsSome (IsPgnText (games.now ++ last.now ∷ []))) out.old out.new result }
-{
-    if games.len() == 0 {
-        return append_game(last, out);
-    }
-    append_games(games, out)?;
-    out.push(b"\n")?;
-    append_game(last, out)
-}
-
-/// Writes a game from the initial array: the seven tags of which nothing is known, an empty line, and the movetext in
-/// lines below 80 columns, which end in `*`. Takes no memory.
-///
-/// # Errors
-/// `Write` where the sink has failed.
-pub fn write_game<W: Sink>(game: &[Move], out: &mut W) -> Result<(), WriteFault>
+// Writes a game behind this many others: an empty line stands between two.
+fn write_behind<W: Sink>(count: usize, game: &[Move], out: &mut W) -> Result<(), Refused>
     requires { IsFromArray game.now }
-    ensures push { Pushes W.held W.has_failed (AddsSome (IsGameText game.now)) out.old out.new result }
-    ensures fault { IfErr result (λ e. e ≡ WriteFault.Write) }
+    ensures text { (games : List (List Move)) (before : Option (List ℕ)) → count ≡ length games
+        → AddsSome (IsPgnText games) before (W.held out.old)
+        → OnOk result (AddsSome (IsPgnText (games ++ game.now ∷ [])) before (W.held out.new)) }
+    ensures runs { OnOk result ((W.has_failed out.old ≡ false) × (W.has_failed out.new ≡ false)) }
+    ensures fault { OnErr result (W.has_failed out.new ≡ true) }
 {
-    match append_game(game, out) {
-        Ok(()) => Ok(()),
-        Err(Refused) => Err(WriteFault::Write),
+    if count == 0 {
+        return write_game(game, out);
     }
+    out.push(b"\n")?;
+    write_game(game, out)
 }
 
 /// Writes the games of a list in canonical order, an empty line between two, each as by `write_game`. Takes no memory.
 ///
 /// # Errors
-/// `Write` where the sink has failed.
-pub fn write_pgn<W: Sink>(games: &Games, out: &mut W) -> Result<(), WriteFault>
-    ensures push { MayPush W.held W.has_failed (AddsSome (IsPgnText games.now)) out.old out.new result }
-    ensures fault { IfErr result (λ e. e ≡ WriteFault.Write) }
+/// `Refused` where the sink has failed.
+pub fn write_pgn<W: Sink>(games: &Games, out: &mut W) -> Result<(), Refused>
+    ensures { MayPush W.held W.has_failed (AddsSome (IsPgnText games.now)) out.old out.new result }
 {
-    match append_games(games, out) {
-        Ok(()) => Ok(()),
-        Err(Refused) => Err(WriteFault::Write),
+    for i in 0..games.len() {
+        let Some(game) = games.game(i) else {
+            unreachable!();
+        };
+        write_behind(i, game, out)?;
     }
+    Ok(())
 }
 
 /// Writes the games of a list as `write_pgn` does, and another game behind them. Takes no memory.
 ///
 /// # Errors
-/// `Write` where the sink has failed.
-pub fn write_pgn_and<W: Sink>(games: &Games, last: &[Move], out: &mut W) -> Result<(), WriteFault>
+/// `Refused` where the sink has failed.
+pub fn write_pgn_and<W: Sink>(games: &Games, last: &[Move], out: &mut W) -> Result<(), Refused>
     requires { IsFromArray last.now }
-    ensures push { Pushes W.held W.has_failed (AddsSome (IsPgnText (games.now ++ last.now ∷ []))) out.old out.new result }
-    ensures fault { IfErr result (λ e. e ≡ WriteFault.Write) }
+    ensures { Pushes W.held W.has_failed (AddsSome (IsPgnText (games.now ++ last.now ∷ []))) out.old out.new result }
 {
-    match append_and(games, last, out) {
-        Ok(()) => Ok(()),
-        Err(Refused) => Err(WriteFault::Write),
-    }
+    write_pgn(games, out)?;
+    write_behind(games.len(), last, out)
 }

@@ -166,7 +166,7 @@ pub struct KnownReadings {
 }
 
 impl Model for KnownReadings {
-    ghost use Rattle.std.specs.Prelude.{All, Unit, tt};
+    ghost use Rattle.std.specs.Prelude.{All};
     ghost use Rattle.pg_san.specs.KnownReadings.{IsKnown};
 
     ghost Value = { Unit {0} };

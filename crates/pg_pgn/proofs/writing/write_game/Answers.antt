@@ -4,7 +4,7 @@ use Rattle.std.specs.Io.KnownBytes.{Appends}
 use Rattle.pg_certificate.specs.Pushing.{AddsSome}
 use Rattle.pg_pgn.specs.Writing.{IsGameText}
 use Rattle.pg_pgn.proofs.WritingLemmas.{on_ok, game_text}
-use Rattle.pg_pgn.proofs.writing.append_game.Goals as goal
+use Rattle.pg_pgn.proofs.writing.write_game.Goals as goal
 
 pub returns : goal.returns
 returns g c = record {

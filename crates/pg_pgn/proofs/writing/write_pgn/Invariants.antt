@@ -1,0 +1,11 @@
+use Rattle.std.proofs.Common.{◌≡◌, take}
+use Rattle.pg_certificate.specs.Pushing.{AddsSome}
+use Rattle.pg_pgn.specs.Writing.{IsPgnText}
+use Rattle.pg_pgn.proofs.writing.write_pgn.Given as goal
+
+-- the games so far were appended
+abbrev pub invariant-loop-i : goal.invariant-loop-i
+invariant-loop-i g l = record {
+  grows : AddsSome (IsPgnText (take l.i l.games)) (g.W.Sink.held l.fn.out) (g.W.Sink.held l.out);
+  same : g.W.Sink.has_failed l.out ≡ g.W.Sink.has_failed l.fn.out;
+}
