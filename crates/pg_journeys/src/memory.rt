@@ -193,7 +193,9 @@ fn first_place(case: &Case, room: usize) -> usize {
     let number = own.wrapping_mul(0xff51_afd7_ed55_8ccd)
         ^ facts.wrapping_mul(0xc4ce_b9fe_1a85_ec53)
         ^ u64::from(plies).wrapping_mul(0x9e37_79b9_7f4a_7c15);
-    (number >> 32) as usize & room.wrapping_sub(1) & !(PLACES - 1)
+    // Once more, so that the highest squares tell in all of the bits that are taken.
+    let mixed = (number ^ number >> 32).wrapping_mul(0xff51_afd7_ed55_8ccd);
+    (mixed >> 40) as usize & room.wrapping_sub(1) & !(PLACES - 1)
 }
 
 // What is remembered at a place of a case that is alike.

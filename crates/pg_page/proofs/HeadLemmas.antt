@@ -1,11 +1,10 @@
 -- The texts of the games make the list, and the parts make the head. Leads to the contract of `page`.
-use Rattle.std.proofs.Common.{◌≡◌, ◌≢◌, ◌∙◌, ◌↔◌, ℕ, suc, ◌+◌, ◌-◌, ◌<◌, ◌≤◌, List, [], ◌∷◌, ◌++◌, Option, Some, length, get_or, take, drop, refl, sym, ap, subst, arith, append_assoc, append-nil, length-append, add-one}
+use Rattle.std.proofs.Common.{◌≡◌, ◌≢◌, ◌∙◌, ◌↔◌, ℕ, suc, ◌+◌, ◌-◌, ◌<◌, ◌≤◌, List, [], ◌∷◌, ◌++◌, Option, length, get_or, drop, refl, sym, ap, subst, arith, append_assoc, append-nil, length-append, add-one}
 use Rattle.std.proofs.KnownBytes.{Appends-nil, Appends-trans}
 use Rattle.std.proofs.Math.Seq.{drop-cons}
-use Rattle.std.proofs.lemmas.List.{take_more, take_all, drop_all, nil_from_length}
-use Rattle.std.proofs.lemmas.Option.{get_or_from_slice_get}
+use Rattle.std.proofs.lemmas.List.{drop_all, nil_from_length}
 use Rattle.std.proofs.lemmas.Bool.Decides.{nat_tests}
-use Rattle.std.specs.Prelude.{slice_get, codes, decimal}
+use Rattle.std.specs.Prelude.{codes, decimal}
 use Rattle.std.specs.Io.KnownBytes.{Appends}
 use Rattle.pg_board.specs.Placement.{Placement, get}
 use Rattle.pg_board.specs.Squares.{file, rank}
@@ -222,33 +221,6 @@ item_grows game a b c d e f p (moves, are, q) r (line, is, s) t = (
 )
 
 -- ---- the list of the games
-items_more : (games : List (List Move)) (g : List Move) (text item : List ℕ) → AreGameItems games text → IsGameItem g item → AreGameItems (games ++ g ∷ []) (text ++ item)
-unfolding AreGameItems
-items_more [] g text item h is = (item, [], is, refl, ap (λ (l : List ℕ). l ++ item) h ∙ sym (append-nil item))
-items_more (x ∷ xs) g text item (first, rest, said, more, e) is = (
-  first,
-  rest ++ item,
-  said,
-  items_more xs g rest item more is,
-  ap (λ (l : List ℕ). l ++ item) e ∙ append_assoc first rest item,
-)
-
-pub no_items : (games : List (List Move)) (held : Option (List ℕ)) → AddsSome (AreGameItems (take 0 games)) held held
-unfolding AreGameItems
-no_items games held = ([], refl, Appends-nil held)
-
-pub one_item_more : (games : List (List Move)) (n : ℕ) (g : List Move) (a b c : Option (List ℕ)) → n < length games → slice_get games n ≡ Some g → AddsSome (AreGameItems (take n games)) a b → AddsSome (IsGameItem g) b c → AddsSome (AreGameItems (take (n + 1) games)) a c
-one_item_more games n g a b c low at (text, items, grows) (item, is, more) =
-    let here : get_or games n g ≡ g = get_or_from_slice_get games n g g at in
-    let e : take (n + 1) games ≡ take n games ++ g ∷ [] = take_more games n g low ∙ ap (λ (x : List Move). take n games ++ x ∷ []) here in (
-      text ++ item,
-      subst (λ (x : List (List Move)). AreGameItems x (text ++ item)) (sym e) (items_more (take n games) g text item items is),
-      Appends-trans a b c text item grows more,
-    )
-
-pub all_items : (games : List (List Move)) (n : ℕ) (a b : Option (List ℕ)) → length games ≤ n → AddsSome (AreGameItems (take n games)) a b → AddsSome (AreGameItems games) a b
-all_items games n a b l h = subst (λ (x : List (List Move)). AddsSome (AreGameItems x) a b) (take_all n games l) h
-
 pub folded_grows : (count : ℕ) (a b c : Option (List ℕ)) → 20 < count → Appends a b (codes "<h2>The games</h2>\n<details><summary>" ++ decimal count) → Appends b c (codes " games</summary>\n<ol id=\"games\">\n") → Appends a c (list_start count)
 folded_grows count a b c many p q =
     let e : list_start count ≡ (codes "<h2>The games</h2>\n<details><summary>" ++ decimal count) ++ codes " games</summary>\n<ol id=\"games\">\n" = grind (arith, nat_tests) in

@@ -8,6 +8,7 @@ use Rattle.pg_position.specs.Step.{Legal}
 use Rattle.pg_fen.specs.PlacementText.{placement_text}
 use Rattle.pg_fen.specs.Lengths.{length_text}
 use Rattle.pg_checker.specs.declared.certify.Answer.{Answer}
+use Rattle.pg_texts.specs.Items.{AreTexts}
 use Rattle.pg_texts.specs.Movetext.{IsMovetext}
 use Rattle.pg_page.specs.Board.{board_text}
 use Rattle.pg_page.specs.Escaping.{escaped}
@@ -92,10 +93,8 @@ pub record IsGameItem (game : List Move) (text : List ℕ) : Type 0 where
   pub is : text ≡ codes "<li><span data-moves=\"" ++ (moves ++ (codes "\">" ++ (movetext ++ codes "</span></li>\n")))
 
 -- each game of the list, in their order
-unfoldable pub AreGameItems : List (List Move) → List ℕ → Type 0
-AreGameItems [] text = text ≡ []
-AreGameItems (game ∷ games) text =
-    (first : List ℕ) × (rest : List ℕ) × IsGameItem game first × AreGameItems games rest × (text ≡ first ++ rest)
+abbrev pub AreGameItems : List (List Move) → List ℕ → Type 0
+AreGameItems games text = AreTexts IsGameItem games text
 
 -- what stands before so many games, and behind them: more than twenty are folded
 abbrev pub list_start : ℕ → List ℕ

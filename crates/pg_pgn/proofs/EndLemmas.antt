@@ -1,9 +1,8 @@
--- Lines on games grow by those on one game more, and a game goes on to its end. Leads to the contracts of write_list and write_ends.
-use Rattle.std.proofs.Common.{◌≡◌, ℕ, ◌+◌, ◌<◌, ◌≤◌, List, [], ◌∷◌, ◌++◌, Option, Some, length, get_or, take, drop, refl, sym, ap, subst, append_assoc, append-nil, add-one, suc, drop-cons, inl, inr, arith, ◌∙◌}
-use Rattle.std.specs.Prelude.{slice_get, codes, ◌/◌}
-use Rattle.std.proofs.KnownBytes.{Appends-nil, Appends-trans}
-use Rattle.std.proofs.lemmas.List.{take_more, take_all, drop_all}
-use Rattle.std.proofs.lemmas.Option.{get_or_from_slice_get}
+-- A game goes on to its end. Leads to the contract of write_ends.
+use Rattle.std.proofs.Common.{◌≡◌, ℕ, ◌+◌, ◌<◌, ◌≤◌, List, ◌∷◌, ◌++◌, Option, length, get_or, drop, refl, sym, ap, subst, add-one, suc, drop-cons, inl, inr, arith, ◌∙◌}
+use Rattle.std.specs.Prelude.{codes, ◌/◌}
+use Rattle.std.proofs.KnownBytes.{Appends-trans}
+use Rattle.std.proofs.lemmas.List.{drop_all}
 use Rattle.std.specs.Io.KnownBytes.{Appends}
 use Rattle.pg_certificate.specs.Pushing.{AddsSome}
 use Rattle.pg_position.specs.declared.moves.Move.{Move}
@@ -19,36 +18,8 @@ use Rattle.pg_fen.specs.PlacementText.{placement_text}
 use Rattle.pg_fen.specs.PositionWriting.{position_text}
 use Rattle.pg_texts.specs.Movetext.{IsMovetext}
 use Rattle.pg_texts.specs.Report.{AddsLine, labelled_text, line_text}
-use Rattle.pg_pgn.specs.Ends.{AreEndTexts, IsEndText, IsStillAfter, Plays, last_of, number}
+use Rattle.pg_pgn.specs.Ends.{IsEndText, IsStillAfter, Plays, last_of, number}
 
-ends_more : (games : List (List Move)) (g : List Move) (text one : List ℕ) → AreEndTexts games text → IsEndText g one → AreEndTexts (games ++ g ∷ []) (text ++ one)
-unfolding AreEndTexts
-ends_more [] g text one h is = (one, [], is, refl, ap (λ (l : List ℕ). l ++ one) h ∙ sym (append-nil one))
-ends_more (x ∷ xs) g text one (first, rest, said, more, e) is = (
-  first,
-  rest ++ one,
-  said,
-  ends_more xs g rest one more is,
-  ap (λ (l : List ℕ). l ++ one) e ∙ append_assoc first rest one,
-)
-
-pub no_ends : (games : List (List Move)) (held : Option (List ℕ)) → AddsSome (AreEndTexts (take 0 games)) held held
-unfolding AreEndTexts
-no_ends games held = ([], refl, Appends-nil held)
-
-pub one_end_more : (games : List (List Move)) (n : ℕ) (g : List Move) (a b c : Option (List ℕ)) → n < length games → slice_get games n ≡ Some g → AddsSome (AreEndTexts (take n games)) a b → AddsSome (IsEndText g) b c → AddsSome (AreEndTexts (take (n + 1) games)) a c
-one_end_more games n g a b c low at (text, are, grows) (one, is, more) =
-    let here : get_or games n g ≡ g = get_or_from_slice_get games n g g at in
-    let e : take (n + 1) games ≡ take n games ++ g ∷ [] = take_more games n g low ∙ ap (λ (x : List Move). take n games ++ x ∷ []) here in (
-      text ++ one,
-      subst (λ (x : List (List Move)). AreEndTexts x (text ++ one)) (sym e) (ends_more (take n games) g text one are is),
-      Appends-trans a b c text one grows more,
-    )
-
-pub all_ends : (games : List (List Move)) (n : ℕ) (a b : Option (List ℕ)) → length games ≤ n → AddsSome (AreEndTexts (take n games)) a b → AddsSome (AreEndTexts games) a b
-all_ends games n a b l h = subst (λ (x : List (List Move)). AddsSome (AreEndTexts x) a b) (take_all n games l) h
-
--- ---- a game
 -- i moves of the game lead to the position, n plies before which were no move of a pawn and took nothing, whatever comes
 -- of the others; and these can be played there
 pub record Lasts (game : List Move) (i : ℕ) (p : State) (n : ℕ) : Type 0 where

@@ -1,9 +1,6 @@
--- A list of problems grows by the line of one game more. Leads to the contract of write_problems.
-use Rattle.std.proofs.Common.{◌≡◌, ℕ, ◌+◌, ◌<◌, List, [], ◌∷◌, ◌++◌, Option, Some, length, get_or, take, refl, sym, ap, subst, append_assoc, append-nil, ◌∙◌}
-use Rattle.std.specs.Prelude.{slice_get}
-use Rattle.std.proofs.KnownBytes.{Appends-nil, Appends-trans}
-use Rattle.std.proofs.lemmas.List.{take_more}
-use Rattle.std.proofs.lemmas.Option.{get_or_from_slice_get}
+-- The line of a problem. Leads to the contract of write_problems.
+use Rattle.std.proofs.Common.{◌≡◌, ℕ, ◌+◌, List, [], ◌∷◌, ◌++◌, Option, length, refl, subst}
+use Rattle.std.proofs.KnownBytes.{Appends-trans}
 use Rattle.std.specs.Io.KnownBytes.{Appends}
 use Rattle.pg_certificate.specs.Pushing.{AddsSome}
 use Rattle.pg_position.specs.declared.moves.Move.{Move}
@@ -15,31 +12,7 @@ use Rattle.pg_fen.specs.PlacementText.{placement_text}
 use Rattle.pg_texts.specs.Movetext.{IsMovetext}
 use Rattle.pg_texts.specs.Report.{AddsLine, line_text}
 use Rattle.pg_pgn.specs.Ends.{Plays}
-use Rattle.pg_pgn.specs.Problems.{AreProblems, IsName, IsProblem, field_text}
-
-problems_more : (games : List (List Move)) (g : List Move) (text one : List ℕ) → AreProblems games text → IsProblem g one → AreProblems (games ++ g ∷ []) (text ++ one)
-unfolding AreProblems
-problems_more [] g text one h is = (one, [], is, refl, ap (λ (l : List ℕ). l ++ one) h ∙ sym (append-nil one))
-problems_more (x ∷ xs) g text one (first, rest, said, more, e) is = (
-  first,
-  rest ++ one,
-  said,
-  problems_more xs g rest one more is,
-  ap (λ (l : List ℕ). l ++ one) e ∙ append_assoc first rest one,
-)
-
-pub no_problems : (games : List (List Move)) (held : Option (List ℕ)) → AddsSome (AreProblems (take 0 games)) held held
-unfolding AreProblems
-no_problems games held = ([], refl, Appends-nil held)
-
-pub one_problem_more : (games : List (List Move)) (n : ℕ) (g : List Move) (a b c : Option (List ℕ)) → n < length games → slice_get games n ≡ Some g → AddsSome (AreProblems (take n games)) a b → AddsSome (IsProblem g) b c → AddsSome (AreProblems (take (n + 1) games)) a c
-one_problem_more games n g a b c low at (text, are, grows) (one, is, more) =
-    let here : get_or games n g ≡ g = get_or_from_slice_get games n g g at in
-    let e : take (n + 1) games ≡ take n games ++ g ∷ [] = take_more games n g low ∙ ap (λ (x : List Move). take n games ++ x ∷ []) here in (
-      text ++ one,
-      subst (λ (x : List (List Move)). AreProblems x (text ++ one)) (sym e) (problems_more (take n games) g text one are is),
-      Appends-trans a b c text one grows more,
-    )
+use Rattle.pg_pgn.specs.Problems.{IsName, IsProblem, field_text}
 
 played : (p : State) (n : ℕ) (game : List Move) (q : State) (still : ℕ) → Plays p n game q still → IsGame p game q
 unfolding Plays

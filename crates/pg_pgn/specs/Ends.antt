@@ -11,6 +11,7 @@ use Rattle.pg_fen.specs.declared.games.FenGame.{FenGame}
 use Rattle.pg_fen.specs.Lengths.{length_text}
 use Rattle.pg_fen.specs.PlacementText.{placement_text}
 use Rattle.pg_fen.specs.PositionWriting.{position_text}
+use Rattle.pg_texts.specs.Items.{AreTexts}
 use Rattle.pg_texts.specs.Movetext.{IsMovetext}
 use Rattle.pg_texts.specs.Report.{line_text, labelled_text}
 
@@ -50,7 +51,5 @@ pub record IsEndText (game : List Move) (text : List ℕ) : Type 0 where
       ++ labelled_text (codes "fen ") (position_text (last_of last still (length game)))))
 
 -- those on the games of a list, one after another
-unfoldable pub AreEndTexts : List (List Move) → List ℕ → Type 0
-AreEndTexts [] text = text ≡ []
-AreEndTexts (game ∷ games) text = (one : List ℕ) × (rest : List ℕ) × IsEndText game one × AreEndTexts games rest
-    × (text ≡ one ++ rest)
+abbrev pub AreEndTexts : List (List Move) → List ℕ → Type 0
+AreEndTexts games text = AreTexts IsEndText games text

@@ -9,6 +9,7 @@ use Rattle.pg_position.specs.Array.{array_state}
 use Rattle.pg_position.specs.Game.{IsGame}
 use Rattle.pg_fen.specs.Lengths.{length_text}
 use Rattle.pg_fen.specs.PlacementText.{placement_text}
+use Rattle.pg_texts.specs.Items.{AreTexts}
 use Rattle.pg_texts.specs.Movetext.{IsMovetext}
 use Rattle.pg_texts.specs.Report.{line_text}
 
@@ -40,7 +41,5 @@ pub record IsProblem (game : List Move) (text : List ℕ) : Type 0 where
       ++ (field_text (length_text (length game)) ++ line_text moves))
 
 -- those on games, one after another
-unfoldable pub AreProblems : List (List Move) → List ℕ → Type 0
-AreProblems [] text = text ≡ []
-AreProblems (game ∷ games) text = (one : List ℕ) × (rest : List ℕ) × IsProblem game one × AreProblems games rest
-    × (text ≡ one ++ rest)
+abbrev pub AreProblems : List (List Move) → List ℕ → Type 0
+AreProblems games text = AreTexts IsProblem games text

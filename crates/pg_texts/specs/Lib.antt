@@ -1,6 +1,7 @@
 pub mod MovesText
 pub mod CountText
 pub mod Movetext
+pub mod Items
 pub mod Report
 pub mod Spelled
 pub mod Upgrade
