@@ -16,11 +16,10 @@ use Rattle.pg_checker.specs.declared.certify.Answer.{Answer}
 use Rattle.pg_checker.specs.declared.certify.Proved.{Proved}
 use Rattle.pg_checker.specs.declared.fault.AnswerFault.{AnswerFault}
 use Rattle.pg_checker.specs.declared.fault.AnswerFault.TheVariants as answer_fault
-use Rattle.pg_checker.specs.declared.fault.Fault.{Fault}
 use Rattle.pg_checker.specs.declared.fault.Fault.TheVariants as fault
 use Rattle.pg_checker.specs.declared.finds.Finds.{Finds}
 use Rattle.pg_checker.specs.declared.finds.Loss.TheVariants.{TooMany}
-use Rattle.pg_checker.specs.inner.Checking.{HeaderFails, fault_of}
+use Rattle.pg_checker.specs.inner.Checking.{fault_of}
 use Rattle.pg_checker.specs.inner.Finds.{AreFinds, Finding, IsFound, IsLossFault, IsLost}
 use Rattle.pg_checker.specs.inner.Halting.{Stop}
 use Rattle.pg_checker.specs.inner.Halting as stop
@@ -71,26 +70,6 @@ stop_answer_tells d n (stop.Because tree.TooManyNamed) k = tt
 stop_answer_tells d n (stop.Because (tree.Shorter m)) k = k
 stop_answer_tells d n (stop.Because (tree.Unlisted g)) k = k.1
 stop_answer_tells d n (stop.Because tree.Trailing) k = tt
-
-pub header_answer_tells : (d : Placement) (n : ℕ) (known : Option (List ℕ)) (failed : Bool) (e : Fault) → HeaderFails d n known failed e → AnswerTells d n (Err (answer_fault.Check e))
-header_answer_tells d n known failed (fault.Listed x) h = tt
-header_answer_tells d n known failed fault.Magic h = tt
-header_answer_tells d n known failed fault.OtherLength h = tt
-header_answer_tells d n known failed fault.OtherDiagram h = tt
-header_answer_tells d n known failed fault.Budget h = tt
-header_answer_tells d n known failed fault.Truncated h = tt
-header_answer_tells d n known failed fault.Read h = tt
-header_answer_tells d n known failed (fault.UnknownRecord x) h = tt
-header_answer_tells d n known failed (fault.UnknownBound x) h = tt
-header_answer_tells d n known failed (fault.CutFails x) h = tt
-header_answer_tells d n known failed fault.RefUnknown h = tt
-header_answer_tells d n known failed fault.RefDiffers h = tt
-header_answer_tells d n known failed fault.RefFertile h = tt
-header_answer_tells d n known failed fault.TooManyNamed h = tt
-header_answer_tells d n known failed fault.Memory h = tt
-header_answer_tells d n known failed (fault.Shorter x) h = absurd h
-header_answer_tells d n known failed (fault.Unlisted x) h = absurd h
-header_answer_tells d n known failed fault.Trailing h = tt
 
 -- ---- what is answered after a yes of the walk
 pub answered_accepts : (t : Terms) (d : Placement) (n : ℕ) (finds : Finds) (proved : Proved) (result : Result Answer AnswerFault) → IfOk result (λ a. (a ≡ record { games = finds.games; proved = proved }) × (finds.loss ≡ None)) → IfErr result (λ e. IsLossFault finds.loss e) → (finds.loss ≡ None → IsProvedBy t d n (record { games = finds.games; proved = proved })) → (finds.loss ≡ Some TooMany → FitsLongLists t d n) → AnswerAccepts t d n result

@@ -36,9 +36,3 @@ more_read bytes tariffs t n are is = (
         )
   ],
 )
-
-pub all_read : (bytes : List ℕ) (tariffs : List Told) (n most : ℕ) → AreRead bytes tariffs n → n ≤ most → most ≤ n
-    → AreRead bytes tariffs most
-all_read bytes tariffs n most are few all =
-    let same : n ≡ most = omega (arith, few, all) in
-    subst (λ (k : ℕ). AreRead bytes tariffs k) same are

@@ -1,5 +1,5 @@
 -- When cases are the same, and what a memory lends and takes back. Leads to the contracts of memory.
-use Rattle.std.proofs.Common.{◌≡◌, ℕ, ◌<◌, ◌↔◌, inl, inr, Option, Bool, true, false, not, ◌||◌, ◌&&◌, refl, sym, ap, ap₂, subst, ◌∙◌, List, length, replicate, IsTrue}
+use Rattle.std.proofs.Common.{◌≡◌, ℕ, ◌<◌, ◌↔◌, inl, inr, Option, Bool, true, false, not, ◌||◌, ◌&&◌, refl, sym, ap, ap₂, subst, ◌∙◌, List, length, IsTrue}
 use Rattle.std.specs.Prelude.{All, Vec, ℤ}
 use Rattle.std.specs.Ordering.{int_eq}
 use lib.Pointwise.{pointwise}
@@ -9,7 +9,7 @@ use Rattle.std.proofs.lemmas.Bool.Decides.{Decides-eqb, Decides-int_eq}
 use Rattle.std.specs.Vec.{with_items}
 use Rattle.std.proofs.lemmas.Bool.{cases_Bool, not-false}
 use Rattle.std.proofs.lemmas.List.{with_items_is}
-use Rattle.std.proofs.lemmas.List.Elements.{All-replicate, All-same}
+use Rattle.std.proofs.lemmas.List.Elements.{All-same}
 use Rattle.pg_board.specs.Bits.{has}
 use Rattle.pg_board.specs.declared.man.Color.{Color}
 use Rattle.pg_board.specs.declared.man.Color.TheVariants.{White, Black}
@@ -75,12 +75,6 @@ alike_by c a b claims same j p is = record {
   queen_side = is.queen_side ∙ sym claims.queen_side;
   marks = is.marks ∙ sym claims.marks;
 }
-
--- ---- what is remembered
-pub all_untold : (rs : List Remembered) (n : ℕ) (r : Remembered) → rs ≡ replicate n r → r.is_told ≡ false → (t : Tariff) (d : Placement) (c : Color) (goals : Men) → All (IsRemembered t d c goals) rs
-all_untold rs n r e none t d c goals =
-    subst (λ (xs : List Remembered). All (λ (x : Remembered). IsRemembered t d c goals x) xs) (sym e)
-    (All-replicate (λ (x : Remembered). IsRemembered t d c goals x) n r (λ told. absurd (let z : true ≡ false = sym told ∙ none in cc)))
 
 -- ---- the same tariff
 both : (a b : Bool) → (a && b) ≡ true → (a ≡ true) × (b ≡ true)

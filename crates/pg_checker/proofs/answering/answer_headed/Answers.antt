@@ -17,7 +17,7 @@ use Rattle.pg_checker.specs.inner.Checking.{Answers, Headed, HeaderFails, fault_
 use Rattle.pg_checker.specs.inner.Halting.{full}
 use Rattle.pg_checker.specs.inner.Machine.{IsReading, path}
 use Rattle.pg_checker.specs.inner.Telling.{StopTells}
-use Rattle.pg_checker.proofs.Answered.{answered_accepts, answered_refuses, answered_tells, answered_with, finds_end, found_are, found_serves, header_answer_tells, stop_answer_tells, too_many}
+use Rattle.pg_checker.proofs.Answered.{answered_accepts, answered_refuses, answered_tells, answered_with, finds_end, found_are, found_serves, stop_answer_tells, too_many}
 use Rattle.pg_checker.proofs.AnyList.{long_lists, none_accepted, none_solve}
 use Rattle.pg_checker.proofs.Certifying.{answers_by, fails_game}
 use Rattle.pg_checker.proofs.Planting.{kept_none}
