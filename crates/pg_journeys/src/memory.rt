@@ -37,7 +37,7 @@ const FIRST_CASES: usize = 16_384;
 const MOST_CASES: usize = 65_536;
 
 // How many places a case may have, one behind another: a power of two.
-const PLACES: usize = 4;
+const PLACES: usize = 8;
 
 // After how many calls it is seen whether room is wanted, and by how many places.
 const CALLS: u32 = 256;
