@@ -1,6 +1,6 @@
 //! Readings that are known: games of one text come again and again to the same positions, and read the same
 //! words there.
-ghost use Rattle.std.specs.Prelude.{◌≡◌, ◌≤◌, IsTrue, All, IfSome, length, take, Ok};
+ghost use Rattle.std.specs.Prelude.{◌≡◌, ◌≤◌, IsTrue, All, IfSome, OnErr, length, take, Ok};
 ghost use Rattle.pg_san.specs.inner.Walk.{IsTextReading};
 ghost use Rattle.pg_san.specs.KnownReadings.{IsKnown, IsStepRead};
 
@@ -129,6 +129,7 @@ fn read_new(
 ) -> Result<Move, SanFault>
     requires { All IsKnown known.old }
     ensures read { IsStepRead here.old text.now here.new result }
+    ensures same { OnErr result (here.new ≡ here.old) }
     ensures known { All IsKnown known.new }
 {
     match read_step(here, text) {
@@ -145,6 +146,7 @@ fn read_new(
 fn read_known(known: &mut [Known], here: &mut Position, text: &[u8]) -> Result<Move, SanFault>
     requires { All IsKnown known.old }
     ensures read { IsStepRead here.old text.now here.new result }
+    ensures same { OnErr result (here.new ≡ here.old) }
     ensures known { All IsKnown known.new }
 {
     if known.is_empty() || text.len() > LONGEST {
@@ -196,9 +198,10 @@ impl KnownReadings {
     /// The one legal move that a text names in the position `here`, read as by `read`, and goes on to where it leads.
     ///
     /// # Errors
-    /// Those of `read`.
+    /// Those of `read`; `here` is as it was then.
     pub fn read(&mut self, here: &mut Position, text: &[u8]) -> Result<Move, SanFault>
-        ensures { IsStepRead here.old text.now here.new result }
+        ensures read { IsStepRead here.old text.now here.new result }
+        ensures same { OnErr result (here.new ≡ here.old) }
     {
         read_known(self.known.as_mut_slice(), here, text)
     }

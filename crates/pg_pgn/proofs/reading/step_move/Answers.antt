@@ -4,4 +4,4 @@ use Rattle.pg_pgn.proofs.reading.step_move.Goals as goal
 
 pub returns-in-Ok-clause-ok : goal.returns-in-Ok-clause-ok
 returns-in-Ok-clause-ok c =
-    move_kept c.keep.result (at c.args.reading.now) (at c.keep.new.reading) c.in-Ok.m c.read.new.here c.args.text.now c.requires c.in-Ok.ensures.0 c.in-Ok.ensures.1 c.keep.ensures.ok
+    move_kept c.keep.result (at c.args.reading.now) (at c.keep.new.reading) c.in-Ok.m c.read.new.here c.args.text.now c.requires c.in-Ok.ensures.read.0 c.in-Ok.ensures.read.1 c.keep.ensures.ok

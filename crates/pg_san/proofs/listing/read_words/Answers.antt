@@ -14,14 +14,14 @@ loop-word-init c = record {
 pub returns-in-Err : goal.returns-in-Err
 returns-in-Err c =
     let l : 0 < length c.without_move_number-text.result.now = grind (arith, nat_tests) in
-    so_bad (words c.args.line.now) (words c.loop-word.rest.now) (words c.in-Some.after.now) c.in-Some.word.now c.without_move_number-text.result.now c.loop-word.plies c.loop-word.kept c.loop-word.game.items c.loop-word.here c.in-Err.cause c.loop-word.invariant.spelled c.in-Some.ensures.0 c.without_move_number-text.ensures l c.in-Err.ensures
+    so_bad (words c.args.line.now) (words c.loop-word.rest.now) (words c.in-Some.after.now) c.in-Some.word.now c.without_move_number-text.result.now c.loop-word.plies c.loop-word.kept c.loop-word.game.items c.loop-word.here c.in-Err.cause c.loop-word.invariant.spelled c.in-Some.ensures.0 c.without_move_number-text.ensures l c.in-Err.ensures.read
 
 pub loop-word-preserved-then-not-is_empty : goal.loop-word-preserved-then-not-is_empty
 loop-word-preserved-then-not-is_empty c =
     let l : 0 < length c.without_move_number-text.result.now = grind (arith, nat_tests) in
     record {
       few = omega (arith, c.loop-word.invariant.few, c.in-Some.ensures.1);
-      spelled = so_move (words c.args.line.now) (words c.loop-word.rest.now) (words c.in-Some.after.now) c.in-Some.word.now c.without_move_number-text.result.now c.loop-word.plies c.loop-word.kept c.keep-kept.result c.loop-word.game.items c.keep-kept.new.game.items c.in-Ok.m c.loop-word.here c.read.new.here c.loop-word.invariant.spelled c.in-Some.ensures.0 c.without_move_number-text.ensures l c.in-Ok.ensures.0 c.in-Ok.ensures.1 c.keep-kept.ensures;
+      spelled = so_move (words c.args.line.now) (words c.loop-word.rest.now) (words c.in-Some.after.now) c.in-Some.word.now c.without_move_number-text.result.now c.loop-word.plies c.loop-word.kept c.keep-kept.result c.loop-word.game.items c.keep-kept.new.game.items c.in-Ok.m c.loop-word.here c.read.new.here c.loop-word.invariant.spelled c.in-Some.ensures.0 c.without_move_number-text.ensures l c.in-Ok.ensures.read.0 c.in-Ok.ensures.read.1 c.keep-kept.ensures;
     }
 
 pub loop-word-preserved : goal.loop-word-preserved
