@@ -6,7 +6,7 @@
 # line `not tried: `. Quiet where all is so; else prints each difference, and ends with status 1. PG may name the program.
 PATH=$PATH:/usr/games
 command -v pgn-extract >/dev/null || { echo 'not tried: bench/program/pgn.sh, for want of pgn-extract'; exit 0; }
-echo 'not tried: bench/program/pgn.sh beside python3-chess, which it has no part for'
+echo 'not tried: bench/program/pgn.sh beside python3-chess, which Debian does not have'
 . "$(dirname "$(readlink -f "$0")")/begin.sh"
 exec python3 - "$pg" "$top/bench/sound-problems" "$work" <<'END'
 import os
