@@ -1,8 +1,6 @@
-use Rattle.std.proofs.Common.{◌≡◌, ◌≢◌, [], sym, ◌∙◌}
+use Rattle.std.proofs.Common.{sym, ◌∙◌}
 use Rattle.std.proofs.lemmas.List.{nil_from_length}
-use Rattle.pg_certificate.specs.Pushing.{AddsSome}
-use Rattle.pg_pgn.specs.Writing.{IsGameText, IsPgnText}
-use Rattle.pg_pgn.proofs.WritingLemmas.{on_ok, game_alone, game_behind, some_games}
+use Rattle.pg_pgn.proofs.WritingLemmas.{game_alone, game_behind, some_games}
 use Rattle.pg_pgn.proofs.writing.write_behind.Goals as goal
 
 pub returns-then-count-eq0-clause-text : goal.returns-then-count-eq0-clause-text
