@@ -1,10 +1,6 @@
 -- No two commands have one name, and what that says of a status.
-use Rattle.std.proofs.Common.{◌≡◌, ◌∙◌, List, subst, ap}
-use Rattle.std.specs.Prelude.{◌↔◌, Option, Some, option_map, unwrap_or}
-use Rattle.clap.specs.Words.{Row, Text, subcommand_name_of, subcommand_rows_of}
+use Rattle.pg_cli.proofs.Common.{◌≡◌, ◌∙◌, List, subst, ap, ◌↔◌, Option, Some, option_map, unwrap_or, Row, Text, subcommand_name_of, subcommand_rows_of, name_of, OfCommand, Command}
 use Rattle.clap.specs.declared.parser.matches.ArgMatches.{ArgMatches}
-use Rattle.pg_cli.specs.Words.{name_of, OfCommand}
-use Rattle.pg_cli.specs.declared.commands.Command.{Command}
 
 the_one : (k command : Command) → Some k ≡ Some command → k ≡ command
 the_one k command e = ap (λ (o : Option Command). unwrap_or o k) e

@@ -1,36 +1,22 @@
 -- Why a command has no status, by why its parts have none; and what that and a status say of its words.
-use Rattle.std.proofs.Common.{◌≡◌, ◌⊎◌, inl, inr, ℕ, List, Vec, Global, ap, subst, sym}
-use Rattle.std.specs.Prelude.{◌↔◌, IsFalse, Option, Some, None, IfSome, Result, Ok, Err, IfOk, IfErr, codes, drop, option_map}
+use Rattle.pg_cli.proofs.Common.{◌≡◌, ◌⊎◌, inl, inr, ℕ, List, Vec, Global, ap, subst, sym, ◌↔◌, IsFalse, Option, Some, None, IfSome, Result, Ok, Err, IfOk, IfErr, codes, drop, option_map, Row, Text, Placement, OpenedState, ProblemFault, Problem, IsBegun, IsCertificateOf, IsNamedBy, OfGiven, IsAskedBy, IsOfWords, IsOpenedBy, refuses_as_asked, says_as_asked, IsRefusedWith, IsSearchRefused, IsUnready, refuses, IsOfFile, IsOfGiven, IsOfInput, IsOfList, IsOfProblem, IsOfText, IsRefusedFor, IsSearchRefusal, IsUnchecked, IsUnlisted, IsChecked, IsSpelled, says, says_of_certificate, says_of_problem, says_of_words, spelled, IsListing, Command, Refusal, Open, Read, Memory, Tariffs}
 use Rattle.std.specs.Fmt.{option_append}
 use Rattle.either.specs.Either.{either, is_left}
 use Rattle.either.specs.declared.Either.{Either}
-use Rattle.clap.specs.Words.{Row, Text}
-use Rattle.pg_board.specs.Placement.{Placement}
 use Rattle.pg_checker.specs.Naming.{Begins, IsNamed}
-use Rattle.pg_checker.specs.Opening.{OpenedState}
-use Rattle.pg_checker.specs.declared.fault.ProblemFault.{ProblemFault}
-use Rattle.pg_checker.specs.declared.problem.Problem.{Problem}
-use Rattle.pg_tariff_files.specs.Files.{IsBegun}
 use Rattle.pg_tariff_files.specs.declared.fault.CarriedFault.{CarriedFault}
 use Rattle.pg_cli.proofs.WordLemmas.{refused_so}
-use Rattle.pg_cli.specs.Answers.{HasAnswer, IsCertificateOf, IsNamedBy, OfGiven}
-use Rattle.pg_cli.specs.Asking.{IsAskedBy, IsOfWords, IsOpenedBy, refuses_as_asked, says_as_asked}
+use Rattle.pg_cli.specs.Answers.{HasAnswer}
 use Rattle.pg_cli.specs.declared.asked.Asked.{Asked}
 use Rattle.pg_cli.specs.declared.asked.Asked.TheVariants as asked
 use Rattle.pg_cli.specs.declared.asked.Carrying.{Carrying}
 use Rattle.pg_cli.specs.declared.asked.Certificate.{Certificate}
-use Rattle.pg_cli.specs.Ending.{IsRefusedWith, IsSearchRefused, IsUnready, refuses}
-use Rattle.pg_cli.specs.Runs.{IsOfFile, IsOfGiven, IsOfInput, IsOfList, IsOfProblem, IsOfText, IsRefusedFor, IsSearchRefusal, IsUnchecked, IsUnlisted}
-use Rattle.pg_cli.specs.Words.{IsChecked, IsSpelled, says, says_of_certificate, says_of_problem, says_of_words, spelled}
-use Rattle.pg_san.specs.Listing.{IsListing}
-use Rattle.pg_cli.specs.declared.commands.Command.{Command}
 use Rattle.pg_cli.specs.declared.commands.CertificateCommand.{CertificateCommand}
 use Rattle.pg_cli.specs.declared.commands.Command.TheVariants.{OfProblem, Check, Search, OfCertificate, Other}
 use Rattle.pg_cli.specs.declared.commands.OtherCommand.{OtherCommand}
 use Rattle.pg_cli.specs.declared.commands.ProblemCommand.{ProblemCommand}
 use Rattle.pg_cli.specs.declared.knowing.Listed.{Listed}
-use Rattle.pg_cli.specs.declared.refusals.Refusal.{Refusal}
-use Rattle.pg_cli.specs.declared.refusals.Refusal.TheVariants.{Open, Read, Write, Memory, Tariffs}
+use Rattle.pg_cli.specs.declared.refusals.Refusal.TheVariants.{Write}
 
 -- a refused file is a refused input
 pub of_input : (refusal : Refusal) → IsOfFile refusal → IsOfInput refusal

@@ -1,28 +1,16 @@
 -- Lines that are judged one behind the other. Leads to the contracts of `judge_and_tell`, `judge_line` and `judge_all`.
-use Rattle.std.proofs.Common.{◌≡◌, ◌≢◌, ◌∙◌, inl, inr, ℕ, ◌≤◌, Bool, List, [], ◌∷◌, ◌++◌, refl, sym, ap, subst, arith, max}
-use Rattle.std.specs.Prelude.{All, Option}
-use Rattle.std.specs.Io.KnownBytes.{Appends}
-use Rattle.std.proofs.KnownBytes.{Appends-nil, Appends-trans}
+use Rattle.pg_cli.proofs.Common.{◌≡◌, ◌≢◌, ◌∙◌, inl, inr, ℕ, ◌≤◌, Bool, List, [], ◌∷◌, ◌++◌, refl, sym, ap, subst, arith, max, All, Option, Appends, Appends-nil, Appends-trans, AddsSome, Gathered, FileFault, IsEntry, Entry, Finding, lines, AreJudged, EndsRun, IsBad, IsCutOff, IsFindingStatus, IsJudged, IsRowStatus, IsRuled, Refusal, Memory}
 use Rattle.std.proofs.Math.Nat.{le-max_left, le-max_right}
 use Rattle.std.proofs.lemmas.Int.{clamps}
 use Rattle.std.proofs.lemmas.List.{append-nil, append_assoc}
 use Rattle.std.proofs.lemmas.List.Elements.{All-cons, All-nil}
-use Rattle.pg_certificate.specs.Pushing.{AddsSome}
-use Rattle.pg_streams.specs.declared.gathered.Gathered.{Gathered}
-use Rattle.pg_files.specs.declared.faults.FileFault.{FileFault}
-use Rattle.pg_judge.specs.Entries.{IsEntry}
 use Rattle.pg_judge.specs.Ruling.{IsSaidSound, IsSoundLine}
-use Rattle.pg_judge.specs.declared.entry.Entry.{Entry}
 use Rattle.pg_judge.specs.declared.given.Given.{Given}
 use Rattle.pg_judge.specs.declared.given.Given.TheVariants.{NoGame, Solves, StopsAt, OfPlies, EndsElsewhere}
-use Rattle.pg_judge.specs.declared.ruling.Finding.{Finding}
 use Rattle.pg_judge.proofs.GameLemmas.{sound_means}
-use Rattle.pg_san.specs.GameText.{lines}
-use Rattle.pg_cli.specs.Judging.{AreJudged, EndsRun, IsBad, IsCutOff, IsFindingStatus, IsJudged, IsRowStatus, IsRuled}
 use Rattle.pg_cli.specs.declared.judging.Spoiled.{Spoiled}
 use Rattle.pg_cli.specs.declared.judging.Spoiled.TheVariants.{Run, Place}
-use Rattle.pg_cli.specs.declared.refusals.Refusal.{Refusal}
-use Rattle.pg_cli.specs.declared.refusals.Refusal.TheVariants.{Write, Memory}
+use Rattle.pg_cli.specs.declared.refusals.Refusal.TheVariants.{Write}
 use Rattle.pg_cli.proofs.WrittenLemmas.{held_by}
 
 -- ---- a line

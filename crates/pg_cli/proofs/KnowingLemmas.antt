@@ -1,12 +1,8 @@
 -- A list, or what is found beside it, of which the status is 1 shows that the problem is not sound.
-use Rattle.std.proofs.Common.{◌≡◌, ℕ, List, [], ◌∷◌}
-use Rattle.pg_board.specs.Placement.{Placement}
-use Rattle.pg_position.specs.declared.moves.Move.{Move}
+use Rattle.pg_cli.proofs.Common.{◌≡◌, ℕ, List, [], ◌∷◌, Placement, Move, IsStanding, IsRefuted}
 use Rattle.pg_checker.specs.Answer.{AreSolutions}
 use Rattle.pg_cooks.proofs.CookLemmas.{not_sound}
 use Rattle.pg_cooks.specs.Unsound.{IsUnsound}
-use Rattle.pg_cooks.specs.Standing.{IsStanding}
-use Rattle.pg_cooks.specs.Cooks.{IsRefuted}
 use Rattle.pg_cooks.specs.declared.standing.Standing.{Standing}
 use Rattle.pg_cooks.specs.declared.standing.Standing.TheVariants.{NotSound, AtLeastOne, NoneGiven}
 use Rattle.pg_cooks.specs.declared.finding.CookAnswer.{CookAnswer}

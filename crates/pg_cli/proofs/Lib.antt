@@ -1,3 +1,4 @@
+mod Common
 pub mod CommandLemmas
 pub mod EndLemmas
 pub mod JudgeLemmas

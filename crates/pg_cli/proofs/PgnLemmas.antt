@@ -1,15 +1,9 @@
 -- Which names are those of files of games in PGN, and what a name gives as a list of problems. Leads to the contract of `judge`.
-use Rattle.std.proofs.Common.{◌≡◌, ◌-◌, ◌∙◌, ℕ, Bool, List, length, subst, sym, take}
-use Rattle.std.specs.Prelude.{◌↔◌, Result, Ok, Err, IfOk, IfErr, IsTrue, codes}
+use Rattle.pg_cli.proofs.Common.{◌≡◌, ◌-◌, ◌∙◌, ℕ, Bool, List, length, subst, sym, take, ◌↔◌, Result, Ok, Err, IfOk, IfErr, IsTrue, codes, Text, GivesList, IsPgnName, IsReadAs, IsListRefused, IsReadFault, Refusal, Memory, Pgn, Read}
 use Rattle.std.specs.List.{ends_with}
 use Rattle.std.proofs.Math.Dec.{eqb}
 use Rattle.std.proofs.lemmas.Bool.Decides.{Decides-eqb}
 use Rattle.std.proofs.lemmas.Slice.Eq.{ends_is}
-use Rattle.clap.specs.Words.{Text}
-use Rattle.pg_cli.specs.Judging.{GivesList, IsPgnName, IsReadAs}
-use Rattle.pg_cli.specs.Runs.{IsListRefused, IsReadFault}
-use Rattle.pg_cli.specs.declared.refusals.Refusal.{Refusal}
-use Rattle.pg_cli.specs.declared.refusals.Refusal.TheVariants.{Memory, Pgn, Read}
 
 -- whether bytes end in `.pgn` says whether the name is that of a file of games in PGN
 pub pgn_name : (name bytes : List ℕ) (r : Bool) → bytes ≡ name → r ≡ ends_with eqb bytes (codes ".pgn") → IsTrue r ↔ IsPgnName name

@@ -1,13 +1,7 @@
 -- What the words of `pg show` spell, and why a diagram that was read is not shown.
-use Rattle.std.proofs.Common.{◌≡◌, ◌⊎◌, inl, inr, subst, sym, ℕ, Bool, true}
-use Rattle.std.specs.Prelude.{Ok, Option, Some, None, IfSome}
-use Rattle.clap.specs.Words.{Text}
-use Rattle.pg_fen.specs.Lengths.{length_of}
+use Rattle.pg_cli.proofs.Common.{◌≡◌, ◌⊎◌, inl, inr, subst, sym, ℕ, Bool, true, Ok, Option, Some, None, IfSome, Text, length_of, IsUnshown, IsAsked, Show}
 use Rattle.pg_report.specs.declared.fault.ShowFault.{ShowFault}
 use Rattle.pg_report.specs.declared.fault.ShowFault.TheVariants.{Memory, Write}
-use Rattle.pg_cli.specs.Runs.{IsUnshown}
-use Rattle.pg_cli.specs.Words.{IsAsked}
-use Rattle.pg_cli.specs.declared.refusals.Refusal.TheVariants.{Show}
 
 -- the length that is asked is one that the word spells
 pub length_given : (word : Option Text) (asked : Option ℕ) → IsAsked word asked → IfSome word (λ text. (n : ℕ) × (length_of text ≡ Ok n))

@@ -1,13 +1,5 @@
 -- What solving a problem tells, by what is told of an entry.
-use Rattle.std.proofs.Common.{◌≡◌, ℕ, Bool, List, [], refl, subst, sym}
-use Rattle.std.proofs.KnownBytes.{Appends-nil}
-use Rattle.std.specs.Prelude.{Option, Some, None, Result, IfOk}
-use Rattle.pg_board.specs.Placement.{Placement}
-use Rattle.pg_certificate.specs.Pushing.{AddsSome}
-use Rattle.pg_pgn.specs.Writing.{IsPgnText}
-use Rattle.pg_position.specs.declared.moves.Move.{Move}
-use Rattle.pg_cli.specs.Solving.{IsSolvedBeside, IsSolvedBoard, IsSolvedWith}
-use Rattle.pg_cli.specs.declared.refusals.Refusal.{Refusal}
+use Rattle.pg_cli.proofs.Common.{◌≡◌, ℕ, Bool, List, [], refl, subst, sym, Appends-nil, Option, Some, None, Result, IfOk, Placement, AddsSome, IsPgnText, Move, IsSolvedBeside, IsSolvedBoard, IsSolvedWith, Refusal}
 use Rattle.pg_cli.proofs.StatusLemmas.{tells}
 
 -- what is told beside these games is told beside some

@@ -1,19 +1,13 @@
 -- What is so of the status of an answer, or of its refusal, by what else is so of it.
-use Rattle.std.proofs.Common.{◌≡◌, ◌≢◌, ◌∙◌, ℕ, Bool, true, ap, subst, sym}
-use Rattle.std.specs.Prelude.{Result, Ok, Err, IfOk, IfErr, OnOk}
-use Rattle.pg_files.specs.declared.faults.FileFault.{FileFault}
+use Rattle.pg_cli.proofs.Common.{◌≡◌, ◌≢◌, ◌∙◌, ℕ, Bool, true, ap, subst, sym, Result, Ok, Err, IfOk, IfErr, OnOk, FileFault, AnswerRunFault, IsOfFile, IsOfSink, why_refusal, Refusal, Check, Answer}
 use Rattle.pg_files.specs.declared.faults.FileFault.TheVariants as file
 use Rattle.pg_guide.specs.declared.fault.WhyFault.{WhyFault}
 use Rattle.pg_guide.specs.declared.fault.WhyFault.TheVariants.{Write as WhyWrite}
-use Rattle.pg_report.specs.declared.fault.AnswerRunFault.{AnswerRunFault}
 use Rattle.pg_report.specs.declared.fault.AnswerRunFault.TheVariants.{Write as ReportWrite}
 use Rattle.pg_report.specs.declared.fault.RunFault.{RunFault}
 use Rattle.pg_report.specs.declared.fault.RunFault.TheVariants.{Write}
 use Rattle.pg_cli.specs.Refusals.{file_refusal}
-use Rattle.pg_cli.specs.Runs.{IsOfFile, IsOfSink, why_refusal}
 use Rattle.pg_cli.specs.declared.refusals.Named.{Named}
-use Rattle.pg_cli.specs.declared.refusals.Refusal.{Refusal}
-use Rattle.pg_cli.specs.declared.refusals.Refusal.TheVariants.{Check, Answer}
 
 -- what is so of a status tells what else is, and so do two things
 pub tells : (result : Result ℕ Refusal) (P Q : ℕ → Type 0) → IfOk result P → ((n : ℕ) → P n → Q n) → IfOk result Q

@@ -1,31 +1,12 @@
 -- What texts and words spell, as `clap` gives them; and why a search has no report.
-use Rattle.std.proofs.Common.{◌≡◌, ◌∙◌, ◌↔◌, ℕ, Bool, List, [], refl, subst, sym, ap, codes}
-use Rattle.std.specs.Prelude.{IsTrue, false, true, Option, Some, None, Result, Ok, Err, IfOk, IfErr, unwrap_or}
-use Rattle.std.specs.Str.Parse.{ParsesUnsigned}
-use Rattle.clap.specs.Words.{ReadsOne, Row, Text, first_of, first_value, rows_of}
+use Rattle.pg_cli.proofs.Common.{◌≡◌, ◌∙◌, ◌↔◌, ℕ, Bool, List, [], refl, subst, sym, ap, codes, IsTrue, false, true, Option, Some, None, Result, Ok, Err, IfOk, IfErr, unwrap_or, ParsesUnsigned, ReadsOne, Row, Text, first_of, first_value, rows_of, first_value-rows, Placement, Move, fields, diagram_of, length_of, SearchFault, Terms, ProblemFault, Failures, of_problem, Problem, IsOfWords, AreMet, IsFoundRefusal, IsGivenUp, IsOfProblem, IsSearchRefusal, search_refusal, spelled, IsNumber, IsSpelled, Refusal, Check}
 use Rattle.clap.specs.declared.parser.matches.Found.{Found}
-use Rattle.clap.proofs.WalkLemmas.{first_value-rows}
-use Rattle.pg_board.specs.Placement.{Placement}
-use Rattle.pg_position.specs.declared.moves.Move.{Move}
-use Rattle.pg_fen.specs.Fields.{fields}
-use Rattle.pg_fen.specs.DiagramText.{diagram_of}
-use Rattle.pg_fen.specs.Lengths.{length_of}
-use Rattle.pg_searcher.specs.declared.fault.SearchFault.{SearchFault}
 use Rattle.pg_searcher.specs.declared.fault.SearchFault.TheVariants as search
 use Rattle.pg_checker.specs.ProblemText.{IsProblemFault}
-use Rattle.pg_checker.specs.Terms.{Terms}
-use Rattle.pg_checker.specs.declared.fault.ProblemFault.{ProblemFault}
 use Rattle.pg_checker.specs.declared.fault.ProblemFault.TheVariants as problem
 use Rattle.pg_cooks.specs.declared.fault.ListingFault.TheVariants as listing
-use Rattle.pg_report.specs.Run.{Failures, of_problem}
 use Rattle.pg_report.specs.declared.fault.RunFault.TheVariants.{Check as CheckFault}
-use Rattle.pg_checker.specs.declared.problem.Problem.{Problem}
-use Rattle.pg_cli.specs.Asking.{IsOfWords}
-use Rattle.pg_cli.specs.Runs.{AreMet, IsFoundRefusal, IsGivenUp, IsOfProblem, IsSearchRefusal, search_refusal}
-use Rattle.pg_cli.specs.Words.{spelled, IsNumber, IsSpelled}
 use Rattle.pg_cli.specs.declared.refusals.Reached.{Reached}
-use Rattle.pg_cli.specs.declared.refusals.Refusal.{Refusal}
-use Rattle.pg_cli.specs.declared.refusals.Refusal.TheVariants.{Check}
 
 -- two texts that are no problem are the words DIAGRAM and LENGTH
 words_are_none : (rows : List Row) (diagram length : List ℕ) (fault : ProblemFault) → diagram ≡ spelled (codes "DIAGRAM") rows

@@ -1,16 +1,7 @@
 -- What a run appended to a buffer stands in the sink below it, once all of it is handed on.
-use Rattle.std.proofs.Common.{◌≡◌, subst, ◌⊎◌, inl, inr, ◌++◌, ℕ, List, codes}
-use Rattle.std.proofs.KnownBytes.{Appends-kept}
-use Rattle.std.specs.Prelude.{Option}
-use Rattle.std.specs.Io.KnownBytes.{Keeps, append_known}
-use Rattle.pg_certificate.specs.Pushing.{AddsSome}
-use Rattle.pg_board.specs.Placement.{Placement}
-use Rattle.pg_checker.specs.Terms.{Terms}
-use Rattle.pg_guide.specs.Why.{AddsRight, HasAnswer}
+use Rattle.pg_cli.proofs.Common.{◌≡◌, subst, ◌⊎◌, inl, inr, ◌++◌, ℕ, List, codes, Appends-kept, Option, Keeps, append_known, AddsSome, Placement, Terms, AddsRight, sink_of, Gathered, HasList}
+use Rattle.pg_guide.specs.Why.{HasAnswer}
 use Rattle.pg_page.specs.Page.{IsShown}
-use Rattle.pg_streams.specs.Buffer.{sink_of}
-use Rattle.pg_streams.specs.declared.gathered.Gathered.{Gathered}
-use Rattle.pg_cli.specs.Answers.{HasList}
 
 -- what a buffer counts as held
 abbrev pub held_by : {W : Type 0} → (W → Option (List ℕ)) → Gathered W → Option (List ℕ)

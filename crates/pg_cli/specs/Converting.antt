@@ -7,11 +7,17 @@ use Rattle.pg_pgn.specs.Pgn.{IsFile}
 use Rattle.pg_pgn.specs.Languages.{name_of}
 use Rattle.pg_pgn.specs.declared.letters.Letters.{Letters}
 use Rattle.pg_pgn.specs.declared.letters.Letters.TheVariants.{English}
+use Rattle.pg_cli.specs.declared.refusals.Refusal.{Refusal}
+use Rattle.pg_cli.specs.declared.refusals.Refusal.TheVariants.{Letters as NoLetters}
 
 -- the letters of the language that a word names; where there is no such word, English ones
 abbrev pub AreNamed : Option Text → Letters → Type 0
 AreNamed None letters = letters ≡ English
 AreNamed (Some name) letters = name ≡ name_of letters
+
+-- the word is no name of letters, and that is told
+abbrev pub IsUnnamed : Option Text → Refusal → Type 0
+IsUnnamed word refusal = (refusal ≡ NoLetters) × ((letters : Letters) → ¬ AreNamed word letters)
 
 -- the bytes that a name gives are games in PGN, in the letters that a word names, and the status is 0
 abbrev pub HasPgn : (Text → List ℕ → Type 0) → Text → Option Text → ℕ → Type 0

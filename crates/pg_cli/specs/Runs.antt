@@ -30,6 +30,7 @@ use Rattle.pg_texts.specs.declared.fault.MovesFault.TheVariants.{Write as MovesW
 use Rattle.pg_texts.specs.declared.fault.CountRunFault.TheVariants.{Write as CountWrite}
 use Rattle.pg_texts.specs.declared.fault.UpgradeFault.TheVariants.{Write as CopyWrite}
 use Rattle.pg_pgn.specs.Pgn.{IsFile, IsFirstFault}
+use Rattle.pg_pgn.specs.declared.letters.Letters.{Letters}
 use Rattle.pg_pgn.specs.declared.letters.Letters.TheVariants.{English}
 use Rattle.pg_report.specs.Answering.{IsUnreported}
 use Rattle.pg_report.specs.Run.{Failures, IsCheckFault, of_problem}
@@ -51,6 +52,7 @@ use Rattle.pg_page.specs.Page.{IsPageFault}
 use Rattle.pg_page.specs.declared.fault.PageFault.{PageFault}
 use Rattle.pg_page.specs.declared.fault.PageFault.TheVariants as page
 use Rattle.pg_cli.specs.Answers.{OfGiven, OfSomeText}
+use Rattle.pg_cli.specs.Converting.{AreNamed, IsTyped, IsUnnamed}
 use Rattle.pg_cli.specs.Judging.{IsPgnName}
 use Rattle.pg_cli.specs.Knowing.{answer_status}
 use Rattle.pg_cli.specs.Refusals.{listing_refusal}
@@ -94,6 +96,31 @@ abbrev pub IsOfSink : Refusal → Type 0
 IsOfSink (Check CheckWrite) = Unit {0}
 IsOfSink (Answer ReportWrite) = Unit {0}
 IsOfSink refusal = ⊥
+
+-- ---- games in PGN, and where games end
+-- the bytes are no games in PGN in these letters, which is their first fault; or the sink has failed
+abbrev pub IsPgnRefusal : Letters → List ℕ → Bool → Refusal → Type 0
+IsPgnRefusal letters text failed (Pgn fault) = IsFirstFault letters text fault
+IsPgnRefusal letters text failed (Check CheckWrite) = failed ≡ true
+IsPgnRefusal letters text failed refusal = ⊥
+
+-- the word names no letters; or a file is not read; or so it is of bytes that the name gives, in the letters of the word
+abbrev pub IsPgnRefused : (Text → List ℕ → Type 0) → Text → Option Text → Refusal → Type 0
+IsPgnRefused Gives name word refusal = IsUnnamed word refusal ⊎ (IsOfFile refusal
+    ⊎ ((text : List ℕ) × Gives name text × (letters : Letters) × AreNamed word letters
+    × (failed : Bool) × IsPgnRefusal letters text failed refusal))
+
+-- the bytes are no text, or it is refused as a list of games; or the sink has failed
+abbrev pub IsEndsRefusal : List ℕ → Bool → Refusal → Type 0
+IsEndsRefusal text failed NotUtf8 = ¬ IsUtf8 text
+IsEndsRefusal text failed (Check (CheckGames fault)) = IsTextFault text fault
+IsEndsRefusal text failed (Check CheckWrite) = failed ≡ true
+IsEndsRefusal text failed refusal = ⊥
+
+-- a file is not read; or so it is of these moves, or of what a hyphen gives
+abbrev pub AreEndsRefused : (Text → List ℕ → Type 0) → Text → Refusal → Type 0
+AreEndsRefused Gives moves refusal = IsOfFile refusal
+    ⊎ ((text : List ℕ) × IsTyped Gives moves text × (failed : Bool) × IsEndsRefusal text failed refusal)
 
 -- ---- a position or a diagram
 -- the text spells a position, and the lines of its legal moves are appended

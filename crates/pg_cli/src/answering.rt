@@ -1,6 +1,6 @@
 //! `pg answer`: the games that a certificate proves are reported, or written as PGN, without a list.
 
-ghost use Rattle.std.specs.Prelude.{◌≡◌, codes, IfOk, IfErr};
+ghost use Rattle.std.specs.Prelude.{◌≡◌, Bool, true, codes, IfOk, IfErr};
 ghost use Rattle.pg_checker.specs.Cuts.{any_rules_by, rules_by};
 ghost use Rattle.pg_checker.specs.Opening.{bytes_of};
 ghost use Rattle.pg_checker.specs.Terms.{terms};
@@ -73,8 +73,12 @@ fn answer_as_pgn<S: Source, W: Sink>(
     source: &mut S,
     out: &mut Gathered<W>,
 ) -> Result<u8, Refusal>
-    ensures { IfOk result (λ status. HasSentAnswer opened.old.diagram opened.old.plies
+    ensures ok { IfOk result (λ status. HasSentAnswer opened.old.diagram opened.old.plies
         (⟦<Gathered<W> as Sink>⟧.held out.old) (W.held (sink_of out.new)) status) }
+    ensures err { IfErr result (λ refusal. ByRecords (rows_of (found_of words.now)) (λ records. IsAnswerRefusal
+        (terms (rules_by code_of excluded bounds.now) records MOST_NAMED (bytes_of opened.old (S.left source.old)))
+        (terms (any_rules_by code_of excluded bounds.now) records MOST_NAMED (bytes_of opened.old (S.left source.old)))
+        opened.old.diagram opened.old.plies (failures (S.has_failed source.new) true) refusal)) }
 {
     let records = records_of(words);
     match answer_opened(
@@ -110,6 +114,11 @@ pub(crate) fn answer_told<S: Source, W: Sink>(
         ByRecords (rows_of (found_of words.now)) (λ records. IsHandedAnswer
         (terms (rules_by code_of excluded bounds.now) records MOST_NAMED (bytes_of opened.old (S.left source.old)))
         opened.old.diagram opened.old.plies (⟦<Gathered<W> as Sink>⟧.held out.old) (W.held (sink_of out.new)) status)) }
+    ensures err { IfErr result (λ refusal. (failed : Bool)
+        × ByRecords (rows_of (found_of words.now)) (λ records. IsAnswerRefusal
+        (terms (rules_by code_of excluded bounds.now) records MOST_NAMED (bytes_of opened.old (S.left source.old)))
+        (terms (any_rules_by code_of excluded bounds.now) records MOST_NAMED (bytes_of opened.old (S.left source.old)))
+        opened.old.diagram opened.old.plies (failures (S.has_failed source.new) failed) refusal)) }
 {
     if say_pgn(words) {
         return answer_as_pgn(alloc, words, opened, bounds, source, out);

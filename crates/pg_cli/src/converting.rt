@@ -1,5 +1,5 @@
 //! `pg pgn` and `pg end`: games in PGN as a list, and where the games of a list end; and games in PGN as problems.
-ghost use Rattle.std.specs.Prelude.{◌≡◌, ◌↔◌, ℕ, List, codes, IfOk, IfErr, IsTrue, OnOk};
+ghost use Rattle.std.specs.Prelude.{◌≡◌, ◌↔◌, ℕ, List, Some, codes, IfOk, IfErr, IsTrue, OnOk};
 ghost use Rattle.clap.specs.Words.{first_of, found_of, rows_of};
 ghost use Rattle.pg_certificate.specs.Pushing.{AddsSome};
 ghost use Rattle.pg_position.specs.declared.moves.Move.{Move};
@@ -10,12 +10,14 @@ ghost use Rattle.pg_san.specs.Listing.{IsListing};
 ghost use Rattle.pg_streams.specs.Buffer.{sink_of};
 ghost use Rattle.pg_texts.specs.Report.{AreGameLines};
 ghost use Rattle.pg_cli.specs.Answers.{IsGivenBy};
-ghost use Rattle.pg_cli.specs.Converting.{AreNamed, HasEnds, HasPgn, IsTyped};
+ghost use Rattle.pg_cli.specs.Converting.{AreNamed, HasEnds, HasPgn, IsTyped, IsUnnamed};
+ghost use Rattle.pg_cli.specs.Ending.{refuses};
 ghost use Rattle.pg_cli.specs.Judging.{ArePgnProblems, IsPgnName, IsReadAs};
-ghost use Rattle.pg_cli.specs.Runs.{IsReadFault};
+ghost use Rattle.pg_cli.specs.Runs.{IsEndsRefusal, IsOfFile, IsPgnRefusal, IsReadFault};
 ghost use Rattle.pg_cli.specs.Words.{spelled};
 
 use crate::checking::finished;
+use crate::commands::{Command, OtherCommand};
 use crate::refusals::{DONE, Named, Refusal};
 use crate::spelling::text_of;
 use clap::ArgMatches;
@@ -33,7 +35,8 @@ use std::{io, str};
 // # Errors
 // `Letters` where there are none of that name.
 fn letters_named(name: &str) -> Result<Letters, Refusal>
-    ensures { IfOk result (λ letters. name.now ≡ name_of letters) }
+    ensures ok { IfOk result (λ letters. name.now ≡ name_of letters) }
+    ensures err { IfErr result (IsUnnamed (Some name.now)) }
 {
     match letters_of(name) {
         Some(letters) => Ok(letters),
@@ -46,7 +49,8 @@ fn letters_named(name: &str) -> Result<Letters, Refusal>
 // # Errors
 // `Letters` where there are none of that name.
 fn letters_in(words: &ArgMatches<'_>) -> Result<Letters, Refusal>
-    ensures { IfOk result (AreNamed (first_of (codes "letters") (rows_of (found_of words.now)))) }
+    ensures ok { IfOk result (AreNamed (first_of (codes "letters") (rows_of (found_of words.now)))) }
+    ensures err { IfErr result (IsUnnamed (first_of (codes "letters") (rows_of (found_of words.now)))) }
 {
     match words.get_str("letters") {
         Some(name) => letters_named(name),
@@ -67,6 +71,7 @@ pub(crate) fn pgn_on<W: Sink>(
     ensures ok { OnOk result ((games : List (List Move)) × IsFile letters text.now games
         × AddsSome (AreGameLines games) (⟦<Gathered<W> as Sink>⟧.held out.old) (W.held (sink_of out.new))) }
     ensures zero { IfOk result (λ status. status ≡ 0) }
+    ensures err { IfErr result (IsPgnRefusal letters text.now (⟦<Gathered<W> as Sink>⟧.has_failed out.new)) }
 {
     let games = match read_pgn(alloc, text, letters) {
         Ok(games) => games,
@@ -80,8 +85,9 @@ pub(crate) fn pgn_on<W: Sink>(
 
 // The bytes of the file of this name, or of standard input where it is a hyphen.
 fn bytes_of<R: Runtime + AllocGlobal>(rt: &R, words: &ArgMatches<'_>) -> Result<Vec<u8>, Refusal>
-    ensures { IfOk result (λ text. IsGivenBy R.File.remaining R.Reader.remaining
+    ensures ok { IfOk result (λ text. IsGivenBy R.File.remaining R.Reader.remaining
         (spelled (codes "FILE") (rows_of (found_of words.now))) text.items) }
+    ensures err { IfErr result IsOfFile }
 {
     match list(rt, text_of(words, "FILE")) {
         Ok(text) => Ok(text),
@@ -90,11 +96,16 @@ fn bytes_of<R: Runtime + AllocGlobal>(rt: &R, words: &ArgMatches<'_>) -> Result<
 }
 
 // `pg pgn`: the games of a file in PGN as a list, on standard output.
+//
+// # Errors
+// Those of `letters_in`, of the file, and of `pgn_on`.
 #[inline(never)]
 pub(crate) fn pgn<R: Runtime + AllocGlobal>(rt: &R, words: &ArgMatches<'_>) -> Result<u8, Refusal>
-    ensures { IfOk result (λ status. HasPgn (IsGivenBy R.File.remaining R.Reader.remaining)
+    ensures ok { IfOk result (λ status. HasPgn (IsGivenBy R.File.remaining R.Reader.remaining)
         (spelled (codes "FILE") (rows_of (found_of words.now)))
         (first_of (codes "letters") (rows_of (found_of words.now))) status) }
+    ensures err { IfErr result (λ refusal. refuses (IsGivenBy R.File.remaining R.Reader.remaining)
+        (Command.Other OtherCommand.Pgn) (rows_of (found_of words.now)) refusal) }
 {
     let letters = match letters_in(words) {
         Ok(letters) => letters,
@@ -121,6 +132,7 @@ pub(crate) fn ends_on<W: Sink>(
     ensures ok { OnOk result ((games : List (List Move)) × IsListing text.now games
         × AddsSome (AreEndTexts games) (⟦<Gathered<W> as Sink>⟧.held out.old) (W.held (sink_of out.new))) }
     ensures zero { IfOk result (λ status. status ≡ 0) }
+    ensures err { IfErr result (IsEndsRefusal text.now (⟦<Gathered<W> as Sink>⟧.has_failed out.new)) }
 {
     let Ok(text) = str::from_utf8(text) else {
         return Err(Refusal::NotUtf8);
@@ -138,8 +150,9 @@ pub(crate) fn ends_on<W: Sink>(
 // The bytes of the list whose games' ends are asked: the moves that the words spell, or standard input where these are
 // a hyphen.
 fn typed<R: Runtime + AllocGlobal>(rt: &R, words: &ArgMatches<'_>) -> Result<Vec<u8>, Refusal>
-    ensures { IfOk result (λ text. IsTyped (IsGivenBy R.File.remaining R.Reader.remaining)
+    ensures ok { IfOk result (λ text. IsTyped (IsGivenBy R.File.remaining R.Reader.remaining)
         (spelled (codes "MOVES") (rows_of (found_of words.now))) text.items) }
+    ensures err { IfErr result IsOfFile }
 {
     let moves = text_of(words, "MOVES");
     if !is_input(moves) {
@@ -152,10 +165,15 @@ fn typed<R: Runtime + AllocGlobal>(rt: &R, words: &ArgMatches<'_>) -> Result<Vec
 }
 
 // `pg end`: where the games of a list end, on standard output.
+//
+// # Errors
+// Those of standard input, where MOVES is a hyphen, and of `ends_on`.
 #[inline(never)]
 pub(crate) fn end<R: Runtime + AllocGlobal>(rt: &R, words: &ArgMatches<'_>) -> Result<u8, Refusal>
-    ensures { IfOk result (λ status. HasEnds (IsGivenBy R.File.remaining R.Reader.remaining)
+    ensures ok { IfOk result (λ status. HasEnds (IsGivenBy R.File.remaining R.Reader.remaining)
         (spelled (codes "MOVES") (rows_of (found_of words.now))) status) }
+    ensures err { IfErr result (λ refusal. refuses (IsGivenBy R.File.remaining R.Reader.remaining)
+        (Command.Other OtherCommand.End) (rows_of (found_of words.now)) refusal) }
 {
     let text = match typed(rt, words) {
         Ok(text) => text,

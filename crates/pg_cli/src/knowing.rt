@@ -1,5 +1,5 @@
 //! `pg games` and `pg cooks`: what a list of games shows by itself, and what is found beside it.
-ghost use Rattle.std.specs.Prelude.{◌≡◌, ℕ, List, Ok, codes, IfOk, IfErr, OnOk};
+ghost use Rattle.std.specs.Prelude.{◌≡◌, ℕ, Bool, List, Ok, codes, IfOk, IfErr, OnOk};
 ghost use Rattle.clap.specs.Words.{found_of, rows_of};
 ghost use Rattle.pg_certificate.specs.Pushing.{AddsSome};
 ghost use Rattle.pg_cooks.specs.Standing.{IsGamesReport};
@@ -172,6 +172,8 @@ fn games_as_pgn<W: Sink>(
     ensures status { IfOk result (λ status. IsTestedWith problem.now.diagram problem.now.length games.now status) }
     ensures text { OnOk result (AddsSome (IsPgnText games.now)
         (⟦<Gathered<W> as Sink>⟧.held out.old) (W.held (sink_of out.new))) }
+    ensures err { IfErr result (λ refusal. (failed : Bool)
+        × IsGamesRefusal problem.now.diagram problem.now.length games.now failed refusal) }
 {
     let mut unread = ToWrite::new(io::sink());
     match run_games(problem, games, &mut unread) {
@@ -193,6 +195,8 @@ fn games_told<W: Sink>(
     ensures report { ¬ Says (codes "pgn") (rows_of (found_of words.now)) → OnOk result (AddsSome
         (IsGamesReport listed.now.problem.diagram listed.now.problem.length listed.now.games)
         (⟦<Gathered<W> as Sink>⟧.held out.old) (W.held (sink_of out.new))) }
+    ensures err { IfErr result (λ refusal. (failed : Bool)
+        × IsGamesRefusal listed.now.problem.diagram listed.now.problem.length listed.now.games failed refusal) }
 {
     if say_pgn(words) {
         return games_as_pgn(&listed.problem, &listed.games, out);

@@ -1,7 +1,7 @@
 //! Games as PGN, in place of a report of them, or beside a certificate.
 
-ghost use Rattle.std.specs.Prelude.{◌≡◌, false, IfOk, IfErr, OnOk};
-ghost use Rattle.pg_certificate.specs.Pushing.{AddsSome};
+ghost use Rattle.std.specs.Prelude.{◌≡◌, false, true, IfOk, IfErr, OnOk};
+ghost use Rattle.pg_certificate.specs.Pushing.{AddsSome, MayPush};
 ghost use Rattle.pg_judge.specs.Rows.{IsWritable};
 ghost use Rattle.pg_judge.specs.Ruling.{IsFindingOf};
 ghost use Rattle.pg_judge.specs.declared.ruling.Finding.TheVariants.{NotSound};
@@ -32,7 +32,8 @@ pub(crate) fn send<W: Sink>(games: &Games, status: u8, out: &mut Gathered<W>) ->
     ensures ok { IfOk result (λ s. s ≡ status) }
     ensures text { OnOk result (AddsSome (IsPgnText games.now)
         (⟦<Gathered<W> as Sink>⟧.held out.old) (W.held (sink_of out.new))) }
-    ensures err { IfErr result (λ refusal. refusal ≡ Check Write) }
+    ensures err { IfErr result (λ refusal. (refusal ≡ Check Write)
+        × (⟦<Gathered<W> as Sink>⟧.has_failed out.new ≡ true)) }
 {
     match write_pgn(games, out) {
         Ok(()) => finished(status, out),
@@ -47,8 +48,8 @@ fn write_evidence<W: Sink>(
     out: &mut W,
 ) -> Result<(), Refused>
     requires { IsWritable evidence.now }
-    ensures { OnOk result (AddsSome (IsPgnText (games_of entry.now.games (NotSound evidence.now)))
-        (W.held out.old) (W.held out.new)) }
+    ensures { MayPush W.held W.has_failed
+        (AddsSome (IsPgnText (games_of entry.now.games (NotSound evidence.now)))) out.old out.new result }
 {
     match evidence {
         Evidence::Several(games) => write_pgn(games, out),
@@ -67,8 +68,8 @@ pub(crate) fn write_found<W: Sink>(
     out: &mut W,
 ) -> Result<(), Refused>
     requires { IsFindingOf entry.now finding.now }
-    ensures { OnOk result (AddsSome (IsPgnText (games_of entry.now.games finding.now))
-        (W.held out.old) (W.held out.new)) }
+    ensures { MayPush W.held W.has_failed
+        (AddsSome (IsPgnText (games_of entry.now.games finding.now))) out.old out.new result }
 {
     match finding {
         Finding::Settled(_, games) => write_pgn(games, out),

@@ -1,9 +1,10 @@
 //! `pg solve`: a problem is judged as one of a list is, and what is found is told as a report, or as PGN.
 
-ghost use Rattle.std.specs.Prelude.{◌≡◌, ◌↔◌, None, Some, IfOk, IsTrue, codes, false, true};
+ghost use Rattle.std.specs.Prelude.{◌≡◌, ◌↔◌, None, Some, IfOk, IfErr, IsTrue, codes, false, true};
 ghost use Rattle.clap.specs.Words.{found_of, rows_of};
 ghost use Rattle.pg_certificate.specs.Pushing.{AddsSome};
 ghost use Rattle.pg_judge.specs.Ruling.{IsFindingOf};
+ghost use Rattle.pg_report.specs.declared.fault.RunFault.TheVariants.{Write};
 ghost use Rattle.pg_streams.specs.Buffer.{sink_of};
 ghost use Rattle.pg_cli.specs.Solving.{IsSolvedBeside, IsSolvedBoard, IsSolvedWith};
 ghost use Rattle.pg_cli.specs.Words.{IsSolved, Says};
@@ -114,9 +115,11 @@ fn report_finding<W: Sink>(
     out: &mut Gathered<W>,
 ) -> Result<u8, Refusal>
     requires { IsFindingOf entry.now ruling.now.finding }
-    ensures { IfOk result (λ status. AddsSome
+    ensures ok { IfOk result (λ status. AddsSome
         (IsSolvedWith false entry.now.problem.diagram entry.now.problem.length entry.now.games status)
         (⟦<Gathered<W> as Sink>⟧.held out.old) (W.held (sink_of out.new))) }
+    ensures err { IfErr result (λ refusal. (refusal ≡ Refusal.Check Write)
+        × (⟦<Gathered<W> as Sink>⟧.has_failed out.new ≡ true)) }
 {
     match write_finding(entry, &ruling.finding, out) {
         Ok(()) => finished(status_of(ruling), out),
@@ -134,9 +137,11 @@ fn send_finding<W: Sink>(
     out: &mut Gathered<W>,
 ) -> Result<u8, Refusal>
     requires { IsFindingOf entry.now ruling.now.finding }
-    ensures { IfOk result (λ status. AddsSome
+    ensures ok { IfOk result (λ status. AddsSome
         (IsSolvedWith true entry.now.problem.diagram entry.now.problem.length entry.now.games status)
         (⟦<Gathered<W> as Sink>⟧.held out.old) (W.held (sink_of out.new))) }
+    ensures err { IfErr result (λ refusal. (refusal ≡ Refusal.Check Write)
+        × (⟦<Gathered<W> as Sink>⟧.has_failed out.new ≡ true)) }
 {
     let status = status_of(ruling);
     match write_found(entry, &ruling.finding, out) {
@@ -153,9 +158,11 @@ fn tell_finding<W: Sink>(
     out: &mut Gathered<W>,
 ) -> Result<u8, Refusal>
     requires { IsFindingOf entry.now ruling.now.finding }
-    ensures { IfOk result (λ status. AddsSome
+    ensures ok { IfOk result (λ status. AddsSome
         (IsSolvedWith as_pgn entry.now.problem.diagram entry.now.problem.length entry.now.games status)
         (⟦<Gathered<W> as Sink>⟧.held out.old) (W.held (sink_of out.new))) }
+    ensures err { IfErr result (λ refusal. (refusal ≡ Refusal.Check Write)
+        × (⟦<Gathered<W> as Sink>⟧.has_failed out.new ≡ true)) }
 {
     if as_pgn {
         return send_finding(entry, ruling, out);

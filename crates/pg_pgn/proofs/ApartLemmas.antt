@@ -1,20 +1,7 @@
 -- A text that is a file of games has no fault, want of memory apart.
-use Rattle.std.proofs.Common.{◌≡◌, ◌≢◌, ℕ, ◌+◌, inl, inr, List, [], ◌∷◌, ◌++◌, Some, None, length, refl, sym, ap, subst, ◌∙◌, arith}
-use Rattle.std.specs.Prelude.{Ok, Err, false}
-use Rattle.pg_position.specs.declared.moves.Move.{Move}
-use Rattle.pg_san.specs.declared.fault.SanFault.{SanFault}
-use Rattle.pg_san.specs.Matching.{IsReading}
+use Rattle.pg_pgn.proofs.Common.{◌≡◌, ◌≢◌, ℕ, ◌+◌, inl, inr, List, [], ◌∷◌, ◌++◌, Some, None, length, refl, sym, ap, subst, ◌∙◌, arith, Ok, Err, false, Move, SanFault, IsReading, Letters, TokenKind, Sign, Nothing, Heads, Fen, SetUp, Opening, Closing, Moves, PgnFault, At, Form, Memory, FormFault, StartsWith, AreTokens, IsUnclosed, body, more_len, kind_of, Reader, at_game, sign_of, said, Goes, Lead, IsFile, IsSignFault, IsFormFault, IsWordFault, IsFaultAt, IsFirstFault}
 use Rattle.pg_san.proofs.OneAnswerLemmas.{one_reading}
-use Rattle.pg_pgn.specs.declared.letters.Letters.{Letters}
-use Rattle.pg_pgn.specs.declared.tokens.TokenKind.{TokenKind}
-use Rattle.pg_pgn.specs.declared.signs.Sign.{Sign}
-use Rattle.pg_pgn.specs.declared.signs.Sign.TheVariants.{Nothing, Heads, Fen, SetUp, Opening, Closing, Moves}
 use Rattle.pg_pgn.specs.declared.signs.Sign.TheVariants.{Result as Ended}
-use Rattle.pg_pgn.specs.declared.fault.PgnFault.{PgnFault}
-use Rattle.pg_pgn.specs.declared.fault.PgnFault.TheVariants.{At, Form, Memory}
-use Rattle.pg_pgn.specs.declared.fault.FormFault.{FormFault}
-use Rattle.pg_pgn.specs.Tokens.{StartsWith, AreTokens, IsUnclosed, body, more_len, kind_of}
-use Rattle.pg_pgn.specs.Pgn.{Reader, at_game, sign_of, said, Goes, Lead, IsFile, IsSignFault, IsFormFault, IsWordFault, IsFaultAt, IsFirstFault}
 use Rattle.pg_pgn.proofs.LegalLemmas.{none_legal}
 use Rattle.pg_pgn.proofs.OneLemmas.{head_same, tail_same, one_token, none_starts, one_way}
 

@@ -1,24 +1,7 @@
 -- A game goes on to its end. Leads to the contract of write_ends.
-use Rattle.std.proofs.Common.{◌≡◌, ℕ, ◌+◌, ◌<◌, ◌≤◌, List, ◌∷◌, ◌++◌, Option, length, get_or, drop, refl, sym, ap, subst, add-one, suc, drop-cons, inl, inr, arith, ◌∙◌}
-use Rattle.std.specs.Prelude.{codes, ◌/◌}
-use Rattle.std.proofs.KnownBytes.{Appends-trans}
-use Rattle.std.proofs.lemmas.List.{drop_all}
-use Rattle.std.specs.Io.KnownBytes.{Appends}
-use Rattle.pg_certificate.specs.Pushing.{AddsSome}
-use Rattle.pg_position.specs.declared.moves.Move.{Move}
-use Rattle.pg_position.specs.declared.state.State.{State}
-use Rattle.pg_position.specs.Array.{array_state}
-use Rattle.pg_position.specs.Position.{IsPosition}
-use Rattle.pg_position.specs.Step.{Legal, IsLegal}
-use Rattle.pg_position.specs.Game.{IsGame}
-use Rattle.pg_position.proofs.FutureLemmas.{one_result}
-use Rattle.pg_san.specs.Games.{IsFromArray}
-use Rattle.pg_fen.specs.Lengths.{length_text}
-use Rattle.pg_fen.specs.PlacementText.{placement_text}
+use Rattle.pg_pgn.proofs.Common.{◌≡◌, ℕ, ◌+◌, ◌<◌, ◌≤◌, List, ◌∷◌, ◌++◌, Option, length, get_or, drop, refl, sym, ap, subst, inl, inr, arith, ◌∙◌, codes, ◌/◌, Appends-trans, drop_all, Appends, AddsSome, Move, State, array_state, IsPosition, Legal, IsLegal, IsGame, one_result, IsFromArray, length_text, placement_text, IsMovetext, AddsLine, labelled_text, line_text, IsEndText, IsStillAfter, Plays, last_of, front_at}
 use Rattle.pg_fen.specs.PositionWriting.{position_text}
-use Rattle.pg_texts.specs.Movetext.{IsMovetext}
-use Rattle.pg_texts.specs.Report.{AddsLine, labelled_text, line_text}
-use Rattle.pg_pgn.specs.Ends.{IsEndText, IsStillAfter, Plays, last_of, number}
+use Rattle.pg_pgn.specs.Ends.{number}
 
 -- i moves of the game lead to the position, n plies before which were no move of a pawn and took nothing, whatever comes
 -- of the others; and these can be played there
@@ -35,11 +18,8 @@ lasts_start game p e h = record {
   few = omega (arith);
 }
 
-dropped : (game : List Move) (i : ℕ) (m : Move) → i < length game → m ≡ get_or game i m → drop i game ≡ m ∷ drop (i + 1) game
-dropped game i m low is = rw add-one (drop-cons game i m low ∙ ap (λ (x : Move). x ∷ drop (suc i) game) (sym is))
-
 next_of : (game : List Move) (i n : ℕ) (p : State) (m : Move) → i < length game → m ≡ get_or game i m → Lasts game i p n → (r : State) × ((q : State) × Legal p m q × IsGame q (drop (i + 1) game) r)
-next_of game i n p m low is h = (h.more.0, subst (λ (v : List Move). IsGame p v h.more.0) (dropped game i m low is) h.more.1)
+next_of game i n p m low is h = (h.more.0, subst (λ (v : List Move). IsGame p v h.more.0) (front_at game i m low is) h.more.1)
 
 pub lasts_legal : (game : List Move) (i n : ℕ) (p : State) (m : Move) → i < length game → m ≡ get_or game i m → Lasts game i p n → IsLegal p m
 lasts_legal game i n p m low is h = let r = next_of game i n p m low is h in (r.1.0, r.1.1)
@@ -54,7 +34,7 @@ lasts_on game i n k p q m low is h valid legal after =
     let r = next_of game i n p m low is h in
     let one : r.1.0 ≡ q = one_result p m r.1.0 q valid r.1.1 legal in
     record {
-      on = λ e s plays. h.on e s (subst (λ (v : List Move). Plays p n v e s) (sym (dropped game i m low is)) (q, k, legal, after, plays));
+      on = λ e s plays. h.on e s (subst (λ (v : List Move). Plays p n v e s) (sym (front_at game i m low is)) (q, k, legal, after, plays));
       more = (r.0, subst (λ (v : State). IsGame v (drop (i + 1) game) r.0) one r.1.2);
       few = few_more p m i n k h.few after;
     }

@@ -1,19 +1,10 @@
 -- A cause where a token stands is the first fault of the text.
-use Rattle.std.proofs.Common.{◌≡◌, ℕ, ◌+◌, ◌<◌, inl, inr, List, [], length, refl, sym, subst, ◌∙◌}
-use Rattle.std.specs.Prelude.{Result as Outcome, Ok, Err, IfErr}
-use Rattle.pg_san.specs.declared.fault.SanFault.{SanFault}
-use Rattle.pg_pgn.specs.declared.letters.Letters.{Letters}
-use Rattle.pg_pgn.specs.declared.fault.PgnFault.{PgnFault}
+use Rattle.pg_pgn.proofs.Common.{◌≡◌, ℕ, ◌+◌, ◌<◌, inl, inr, List, [], length, refl, sym, subst, ◌∙◌, Ok, Err, IfErr, SanFault, Letters, PgnFault, At, Memory, FormFault, Cause, StartsWith, Reader, sign_of, said, IsRead, IsFormFault, IsWordFault, IsFirstFault, IsCause, IsOpen, Tells}
+use Rattle.std.specs.Prelude.{Result as Outcome}
 use Rattle.pg_pgn.specs.declared.fault.PgnFault.TheVariants as Told
-use Rattle.pg_pgn.specs.declared.fault.PgnFault.TheVariants.{At, Memory}
 use Rattle.pg_pgn.specs.declared.fault.PgnFault.TheVariants.{Form as Formed}
-use Rattle.pg_pgn.specs.declared.fault.FormFault.{FormFault}
 use Rattle.pg_pgn.specs.declared.fault.FormFault.TheVariants as Fault
-use Rattle.pg_pgn.specs.declared.reading.Cause.{Cause}
 use Rattle.pg_pgn.specs.declared.reading.Cause.TheVariants.{Word, Form, NoMemory}
-use Rattle.pg_pgn.specs.Tokens.{StartsWith}
-use Rattle.pg_pgn.specs.Pgn.{Reader, sign_of, said, IsRead, IsFormFault, IsWordFault, IsFirstFault}
-use Rattle.pg_pgn.specs.Steps.{IsCause, IsOpen, Tells}
 
 pub memory_fault : (letters : Letters) (text : List ℕ) (r : Reader) (rest : List ℕ) (fault : PgnFault) → IsRead letters text r rest → fault ≡ Told.Memory → IsFirstFault letters text fault
 unfolding IsFirstFault

@@ -1,22 +1,9 @@
 -- Games that are read are legal from the initial array.
-use Rattle.std.proofs.Common.{◌≡◌, ℕ, ◌<◌, inl, inr, Bool, true, false, List, [], ◌∷◌, ◌++◌, length, refl, sym, ap, subst, ◌∙◌, arith}
-use Rattle.std.specs.Prelude.{All, Result as Outcome, Ok, Err, OnOk, map, get_or, ltb, if◌then◌else◌, ◌==◌, ◌||◌, nat_lt}
+use Rattle.pg_pgn.proofs.Common.{◌≡◌, ℕ, ◌<◌, inl, inr, Bool, true, false, List, [], ◌∷◌, ◌++◌, length, refl, sym, ap, subst, ◌∙◌, arith, All, Ok, Err, OnOk, map, get_or, ltb, if◌then◌else◌, ◌==◌, ◌||◌, nat_lt, length-map, ltb-true, State, Move, array_state, IsGame, Legal, IsFromArray, IsReading, Letters, Sign, Nothing, Heads, Fen, SetUp, Opening, Closing, Moves, Reader, at_game, at_head, ended, head, moved, sign_of, said, Goes, Lead, IsRead, all_games, AreLegal}
+use Rattle.std.specs.Prelude.{Result as Outcome}
 use Rattle.std.proofs.lemmas.List.Elements.{All-push}
-use Rattle.std.proofs.lemmas.List.{length-map}
-use Rattle.std.proofs.lemmas.Bool.{ltb-true}
 use Rattle.std.proofs.Math.ListN.{get_or-map}
-use Rattle.pg_position.specs.declared.state.State.{State}
-use Rattle.pg_position.specs.declared.moves.Move.{Move}
-use Rattle.pg_position.specs.Array.{array_state}
-use Rattle.pg_position.specs.Game.{IsGame}
-use Rattle.pg_position.specs.Step.{Legal}
-use Rattle.pg_san.specs.Games.{IsFromArray}
-use Rattle.pg_san.specs.Matching.{IsReading}
-use Rattle.pg_pgn.specs.declared.letters.Letters.{Letters}
-use Rattle.pg_pgn.specs.declared.signs.Sign.{Sign}
-use Rattle.pg_pgn.specs.declared.signs.Sign.TheVariants.{Nothing, Heads, Fen, SetUp, Opening, Closing, Result, Moves}
-use Rattle.pg_pgn.specs.Pgn.{Reader, at_game, at_head, ended, head, moved, sign_of, said, Goes, Lead, IsRead, all_games}
-use Rattle.pg_pgn.specs.Steps.{AreLegal}
+use Rattle.pg_pgn.specs.declared.signs.Sign.TheVariants.{Result}
 
 pub none_legal : AreLegal (at_game [] false)
 none_legal = record { games = λ k d low. absurd (omega (arith, low)); moves = refl }

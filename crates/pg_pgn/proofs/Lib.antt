@@ -1,3 +1,4 @@
+mod Common
 pub mod TokenLemmas
 pub mod ReadingLemmas
 pub mod FaultLemmas

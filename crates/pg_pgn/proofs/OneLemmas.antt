@@ -1,21 +1,6 @@
 -- A text has one file of games.
-use Rattle.std.proofs.Common.{◌≡◌, ℕ, ◌+◌, inl, inr, List, [], ◌∷◌, Option, Some, None, length, take, drop, get_or, refl, sym, ap, subst, ◌∙◌, arith}
-use Rattle.std.specs.Prelude.{false}
-use Rattle.pg_position.specs.declared.state.State.{State}
-use Rattle.pg_position.specs.declared.moves.Move.{Move}
-use Rattle.pg_position.specs.Array.{array_state}
-use Rattle.pg_position.specs.Game.{IsGame}
-use Rattle.pg_position.specs.Position.{IsPosition}
-use Rattle.pg_position.specs.Step.{Legal}
-use Rattle.pg_position.proofs.ArrayLemmas.{array_position}
-use Rattle.pg_position.proofs.FutureLemmas.{one_result, legal_position}
-use Rattle.pg_pgn.specs.declared.letters.Letters.{Letters}
-use Rattle.pg_pgn.specs.declared.signs.Sign.{Sign}
-use Rattle.pg_pgn.specs.declared.signs.Sign.TheVariants.{Nothing, Heads, Fen, SetUp, Opening, Closing, Moves}
+use Rattle.pg_pgn.proofs.Common.{◌≡◌, ℕ, ◌+◌, inl, inr, List, [], ◌∷◌, Option, Some, None, length, take, drop, get_or, refl, sym, ap, subst, ◌∙◌, arith, false, State, Move, array_state, IsGame, IsPosition, Legal, array_position, one_result, legal_position, Letters, Sign, Nothing, Heads, Fen, SetUp, Opening, Closing, Moves, StartsWith, AreTokens, body, more_len, kind_of, Reader, at_game, moved, sign_of, said, Goes, Lead, IsFile, all_games, AreLegal}
 use Rattle.pg_pgn.specs.declared.signs.Sign.TheVariants.{Result as Ended}
-use Rattle.pg_pgn.specs.Tokens.{StartsWith, AreTokens, body, more_len, kind_of}
-use Rattle.pg_pgn.specs.Pgn.{Reader, at_game, moved, sign_of, said, Goes, Lead, IsFile, all_games}
-use Rattle.pg_pgn.specs.Steps.{AreLegal}
 use Rattle.pg_pgn.proofs.LegalLemmas.{none_legal, goes_legal}
 
 -- ---- tokens

@@ -1,18 +1,5 @@
 -- The line of a problem. Leads to the contract of write_problems.
-use Rattle.std.proofs.Common.{◌≡◌, ℕ, List, [], ◌∷◌, ◌++◌, Option, length, refl, subst}
-use Rattle.std.proofs.KnownBytes.{Appends-trans}
-use Rattle.std.specs.Io.KnownBytes.{Appends}
-use Rattle.pg_certificate.specs.Pushing.{AddsSome}
-use Rattle.pg_position.specs.declared.moves.Move.{Move}
-use Rattle.pg_position.specs.declared.state.State.{State}
-use Rattle.pg_position.specs.Array.{array_state}
-use Rattle.pg_position.specs.Game.{IsGame}
-use Rattle.pg_fen.specs.Lengths.{length_text}
-use Rattle.pg_fen.specs.PlacementText.{placement_text}
-use Rattle.pg_texts.specs.Movetext.{IsMovetext}
-use Rattle.pg_texts.specs.Report.{AddsLine, line_text}
-use Rattle.pg_pgn.specs.Ends.{Plays}
-use Rattle.pg_pgn.specs.Problems.{IsName, IsProblem, field_text}
+use Rattle.pg_pgn.proofs.Common.{◌≡◌, ℕ, List, [], ◌∷◌, ◌++◌, Option, length, refl, subst, Appends-trans, Appends, AddsSome, Move, State, array_state, IsGame, length_text, placement_text, IsMovetext, AddsLine, line_text, Plays, IsName, IsProblem, field_text}
 
 played : (p : State) (n : ℕ) (game : List Move) (q : State) (still : ℕ) → Plays p n game q still → IsGame p game q
 unfolding Plays

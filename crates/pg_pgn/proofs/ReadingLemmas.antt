@@ -1,16 +1,7 @@
 -- A text is read one token at a time.
-use Rattle.std.proofs.Common.{◌≡◌, ℕ, ◌+◌, ◌-◌, ◌≤◌, inl, inr, Bool, true, false, List, [], ◌∷◌, ◌++◌, length, length-drop, refl, sym, ap, subst, arith, ◌∙◌}
-use Rattle.std.specs.Prelude.{Result, Ok, Err, OnOk, IfOk, IfErr, ◌==◌, if◌then◌else◌}
-use Rattle.pg_position.specs.declared.moves.Move.{Move}
-use Rattle.pg_pgn.specs.declared.letters.Letters.{Letters}
-use Rattle.pg_pgn.specs.declared.reading.Cause.{Cause}
-use Rattle.pg_pgn.specs.declared.signs.Sign.{Sign}
-use Rattle.pg_pgn.specs.declared.signs.Sign.TheVariants.{Nothing, Heads, Fen, SetUp, Opening, Closing, Moves}
+use Rattle.pg_pgn.proofs.Common.{◌≡◌, ℕ, ◌+◌, ◌-◌, ◌≤◌, inl, inr, Bool, true, false, List, [], ◌∷◌, ◌++◌, length, length-drop, refl, sym, ap, subst, arith, ◌∙◌, Ok, Err, OnOk, IfOk, IfErr, ◌==◌, if◌then◌else◌, Move, Letters, Cause, Sign, Nothing, Heads, Fen, SetUp, Opening, Closing, Moves, TokenKind, StartsWith, AreTokens, body, without_mark, hidden_len, kind_at, Reader, at_game, at_head, ended, head, sign_of, sign_by, said, Goes, Lead, IsRead, IsFile, all_games, IsCause}
+use Rattle.std.specs.Prelude.{Result}
 use Rattle.pg_pgn.specs.declared.signs.Sign.TheVariants.{Result as Ended}
-use Rattle.pg_pgn.specs.declared.tokens.TokenKind.{TokenKind}
-use Rattle.pg_pgn.specs.Tokens.{StartsWith, AreTokens, body, without_mark, hidden_len, kind_at}
-use Rattle.pg_pgn.specs.Pgn.{Reader, at_game, at_head, ended, head, sign_of, sign_by, said, Goes, Lead, IsRead, IsFile, all_games}
-use Rattle.pg_pgn.specs.Steps.{IsCause}
 
 pub read_none : (letters : Letters) (text : List ℕ) → IsRead letters text (at_game [] false) (body text)
 unfolding AreTokens Lead

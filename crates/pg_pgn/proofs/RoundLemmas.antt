@@ -1,27 +1,6 @@
 -- What is written is read as the games that were written.
-use Rattle.std.proofs.Common.{◌≡◌, ℕ, suc, ◌+◌, inl, inr, Bool, true, false, List, [], ◌∷◌, ◌++◌, Some, length, refl, sym, ap, subst, ◌∙◌, arith, append_assoc}
-use Rattle.std.specs.Prelude.{◌&&◌, ◌==◌, not, nat_lt, codes, Ok, if◌then◌else◌}
-use Rattle.std.specs.List.{prefix_len}
-use Rattle.std.specs.Char.{is_ascii_digit}
-use Rattle.std.proofs.lemmas.Bool.Decides.{eqb_tells}
-use Rattle.std.proofs.lemmas.List.{take_at}
-use Rattle.std.proofs.Math.Seq.{drop-append_seam}
-use Rattle.pg_position.specs.declared.state.State.{State}
-use Rattle.pg_position.specs.declared.moves.Move.{Move}
-use Rattle.pg_position.specs.Step.{Legal}
-use Rattle.pg_san.specs.Matching.{IsReading}
-use Rattle.pg_san.specs.Writing.{IsSan}
-use Rattle.pg_san.specs.GameText.{is_dot}
+use Rattle.pg_pgn.proofs.Common.{◌≡◌, ℕ, suc, ◌+◌, inl, inr, Bool, true, false, List, [], ◌∷◌, ◌++◌, Some, length, refl, sym, ap, subst, ◌∙◌, arith, append_assoc, ◌&&◌, ◌==◌, not, nat_lt, codes, Ok, if◌then◌else◌, prefix_len, is_ascii_digit, eqb_tells, take_at, drop-append_seam, State, Move, Legal, IsReading, IsSan, is_dot, English, TokenKind, Gap, LineEnd, Comment, LineComment, Tag, Glyph, Opens, Closes, Star, Word, Sign, Moves, english, written, kind_of, is_word, is_word_byte, is_gap, more_len, StartsWith, AreTokens, Reader, moved, sign_of, sign_by, word_sign, said, is_mark, without_number, Goes, Lead, gap, spaced, and_parts, not-true, and-false}
 use Rattle.pg_san.proofs.LawLemmas.{itself, no_other}
-use Rattle.pg_pgn.specs.declared.letters.Letters.TheVariants.{English}
-use Rattle.pg_pgn.specs.declared.tokens.TokenKind.{TokenKind}
-use Rattle.pg_pgn.specs.declared.tokens.TokenKind.TheVariants.{Gap, LineEnd, Comment, LineComment, Tag, Glyph, Opens, Closes, Star, Word}
-use Rattle.pg_pgn.specs.declared.signs.Sign.{Sign}
-use Rattle.pg_pgn.specs.declared.signs.Sign.TheVariants.{Moves}
-use Rattle.pg_pgn.specs.Letters.{english, written}
-use Rattle.pg_pgn.specs.Tokens.{kind_of, is_word, is_word_byte, is_gap, more_len, StartsWith, AreTokens}
-use Rattle.pg_pgn.specs.Pgn.{Reader, moved, sign_of, sign_by, word_sign, said, is_mark, without_number, Goes, Lead}
-use Rattle.pg_pgn.specs.Writing.{gap, spaced}
 use Rattle.pg_pgn.proofs.SanBytes.{member, passes, Every, member_passes, every_so, alphabet, initials, san_are, san_begun}
 
 -- ---- tokens, one after another
@@ -106,20 +85,12 @@ word_reaches r s b w rest k every stops goes =
 plain : ℕ → Bool
 plain b = not (b == 58) && (not (b == 111) && nat_lt b 128)
 
-split : (a b : Bool) → (a && b) ≡ true → (a ≡ true) × (b ≡ true)
-split true b h = (refl, h)
-split false b h = absurd cc
-
-pub not_so : (b : Bool) → not b ≡ true → b ≡ false
-not_so true h = absurd cc
-not_so false h = refl
-
 plain_written : (b : ℕ) (more : List ℕ) → plain b ≡ true → written English b more ≡ b ∷ []
 unfolding plain
 plain_written b more h =
-    let parts = split (not (b == 58)) (not (b == 111) && nat_lt b 128) h in
-    let others = split (not (b == 111)) (nat_lt b 128) parts.1 in
-    rw (not_so (b == 58) parts.0, not_so (b == 111) others.0, others.1) refl
+    let parts = and_parts (not (b == 58)) (not (b == 111) && nat_lt b 128) h in
+    let others = and_parts (not (b == 111)) (nat_lt b 128) parts.1 in
+    rw (not-true (b == 58) parts.0, not-true (b == 111) others.0, others.1) refl
 
 english_same : (w : List ℕ) → Every plain w → english English w ≡ w
 unfolding english Every
@@ -166,21 +137,21 @@ pub record OpensMove (b : ℕ) : Type 0 where
 told : (b : ℕ) → opens_move b ≡ true → OpensMove b
 unfolding opens_move
 told b h =
-    let p1 = split (is_word_byte b) _ h in
-    let p2 = split (not (is_gap b)) _ p1.1 in
-    let p3 = split (not (b == 37)) _ p2.1 in
-    let p4 = split (not (is_ascii_digit b)) _ p3.1 in
-    let p5 = split (not (is_dot b)) _ p4.1 in
-    let p6 = split (not (is_mark b)) _ p5.1 in
-    let p7 = split (not (b == 48)) (not (b == 49)) p6.1 in
+    let p1 = and_parts (is_word_byte b) _ h in
+    let p2 = and_parts (not (is_gap b)) _ p1.1 in
+    let p3 = and_parts (not (b == 37)) _ p2.1 in
+    let p4 = and_parts (not (is_ascii_digit b)) _ p3.1 in
+    let p5 = and_parts (not (is_dot b)) _ p4.1 in
+    let p6 = and_parts (not (is_mark b)) _ p5.1 in
+    let p7 = and_parts (not (b == 48)) (not (b == 49)) p6.1 in
     record {
       kind = word_kind (kind_of b) p1.0;
-      front = record { gap = not_so (is_gap b) p2.0; shown = not_so (b == 37) p3.0 };
-      digit = not_so (is_ascii_digit b) p4.0;
-      dot = not_so (is_dot b) p5.0;
-      mark = not_so (is_mark b) p6.0;
-      zero_not = not_so (b == 48) p7.0;
-      one_not = not_so (b == 49) p7.1;
+      front = record { gap = not-true (is_gap b) p2.0; shown = not-true (b == 37) p3.0 };
+      digit = not-true (is_ascii_digit b) p4.0;
+      dot = not-true (is_dot b) p5.0;
+      mark = not-true (is_mark b) p6.0;
+      zero_not = not-true (b == 48) p7.0;
+      one_not = not-true (b == 49) p7.1;
     }
 
 initial_opens : (b : ℕ) → member initials b ≡ true → opens_move b ≡ true
@@ -203,10 +174,6 @@ letter_other : (b : ℕ) → member alphabet b ≡ true → other b ≡ true
 unfolding passes alphabet other
 letter_other b h = member_passes other alphabet b h refl
 
-and_no : (a : Bool) → (a && false) ≡ false
-and_no true = refl
-and_no false = refl
-
 none_longer : (n : ℕ) → (0 == suc n) ≡ false
 none_longer n = elim (eqb_tells 0 (suc n)) [
   | inl w ↦ (let e : 0 ≡ suc n = w.1 in absurd (omega (arith, e)))
@@ -216,11 +183,11 @@ none_longer n = elim (eqb_tells 0 (suc n)) [
 -- a word that begins so, and goes on with neither `.` nor `p`, is a move
 moves_sign : (b : ℕ) (w : List ℕ) → OpensMove b → Every other w → word_sign (b ∷ w) ≡ Moves
 unfolding Every other
-moves_sign b [] o h = rw (o.one_not, o.zero_not, o.mark, and_no (b == 101)) refl
+moves_sign b [] o h = rw (o.one_not, o.zero_not, o.mark, and-false (b == 101)) refl
 moves_sign b (c ∷ v) o h =
     let long : (0 == suc (suc (length v))) ≡ false = none_longer (suc (length v)) in
-    let parts = split (not (c == 46)) (not (c == 112)) h.0 in
-    rw (o.one_not, o.zero_not, o.mark, long, not_so (c == 46) parts.0, not_so (c == 112) parts.1, and_no (b == 101)) refl
+    let parts = and_parts (not (c == 46)) (not (c == 112)) h.0 in
+    rw (o.one_not, o.zero_not, o.mark, long, not-true (c == 46) parts.0, not-true (c == 112) parts.1, and-false (b == 101)) refl
 
 -- ---- the text of a move
 -- what is told of the text of a move: its first byte, and the others

@@ -1,51 +1,15 @@
 -- The text of games is read as these games.
-use Rattle.std.proofs.Common.{◌≡◌, ◌≢◌, ℕ, suc, ◌+◌, ◌/◌, ◌%◌, ◌^◌, ◌<◌, ◌≤◌, inl, inr, Bool, true, false, List, [], ◌∷◌, ◌++◌, length, drop, refl, sym, ap, subst, ◌∙◌, arith, append_assoc, append-nil, length-append}
-use Rattle.std.specs.Prelude.{zero, ◌||◌, ◌==◌, not, nat_lt, codes, if◌then◌else◌}
-use Rattle.std.specs.List.{prefix_len}
-use Rattle.std.specs.Char.{is_ascii_digit}
+use Rattle.pg_pgn.proofs.Common.{◌≡◌, ◌≢◌, ℕ, suc, ◌+◌, ◌/◌, ◌%◌, ◌^◌, ◌<◌, ◌≤◌, inl, inr, Bool, true, false, List, [], ◌∷◌, ◌++◌, length, drop, take, Some, refl, sym, ap, subst, ◌∙◌, arith, append_assoc, append-nil, length-append, zero, ◌||◌, ◌==◌, not, nat_lt, codes, if◌then◌else◌, prefix_len, is_ascii_digit, cases_lt, eqb_tells, drop-append_seam, State, Move, Legal, array_state, IsSan, digits_len, dots_len, is_dot, English, Sign, Nothing, Heads, english, kind_of, is_word_byte, is_gap, tag_from, tag_name, tag_value, StartsWith, AreTokens, body, Reader, at_game, ended, moved, sign_of, word_sign, said, without_number, behind_number, Goes, Lead, IsFile, tags, gap, columns, spaced, number_text, number_columns, AreMoves, IsGameText, AreFurther, IsPgnText, AreShort, not-true}
 use Rattle.std.specs.Fmt.{decimal}
-use Rattle.std.proofs.lemmas.Bool.{cases_lt}
-use Rattle.std.proofs.lemmas.Bool.Decides.{eqb_tells}
 use Rattle.std.proofs.lemmas.Fmt.{decimal_digit, decimal_step}
-use Rattle.std.proofs.Math.Seq.{drop-append_seam}
-use Rattle.pg_position.specs.declared.state.State.{State}
-use Rattle.pg_position.specs.declared.moves.Move.{Move}
-use Rattle.pg_position.specs.Step.{Legal}
-use Rattle.pg_position.specs.Array.{array_state}
-use Rattle.pg_san.specs.Writing.{IsSan}
-use Rattle.pg_san.specs.GameText.{digits_len, dots_len, is_dot}
-use Rattle.pg_pgn.specs.declared.letters.Letters.TheVariants.{English}
-use Rattle.pg_pgn.specs.declared.signs.Sign.{Sign}
-use Rattle.pg_pgn.specs.declared.signs.Sign.TheVariants.{Nothing, Heads}
 use Rattle.pg_pgn.specs.declared.signs.Sign.TheVariants.{Result as Ended}
-use Rattle.pg_pgn.specs.Letters.{english}
-use Rattle.pg_pgn.specs.Tokens.{kind_of, is_word_byte, is_gap, tag_from, tag_name, tag_value, StartsWith, AreTokens, body}
-use Rattle.pg_pgn.specs.Pgn.{Reader, at_game, ended, moved, sign_of, word_sign, said, without_number, behind_number, Goes, Lead, IsFile}
-use Rattle.pg_pgn.specs.Writing.{tags, gap, columns, spaced, number, number_text, number_columns, AreMoves, IsGameText, AreFurther, IsPgnText, AreShort}
-use Rattle.pg_pgn.proofs.SanBytes.{member, passes, Every, member_passes, every_append, every_so}
-use Rattle.pg_pgn.proofs.RoundLemmas.{Reaches, reaches_none, reaches_one, reaches_then, IsFront, Stops, prefix_all, word_kind, word_reaches, spaced_reaches, move_reaches, move_text, not_so}
+use Rattle.pg_pgn.specs.Writing.{number}
+use Rattle.pg_pgn.specs.declared.tokens.TagPart.TheVariants.{Bare}
+use Rattle.pg_pgn.proofs.SanBytes.{member, passes, Every, member_passes, every_append, every_so, range, in_range}
+use Rattle.pg_pgn.proofs.RoundLemmas.{Reaches, reaches_none, reaches_one, reaches_then, IsFront, Stops, prefix_all, word_kind, word_reaches, spaced_reaches, move_reaches, move_text}
+use Rattle.pg_pgn.proofs.WritingLemmas.{around}
 
 -- ---- numbers
-pub range : ℕ → ℕ → List ℕ
-range low zero = []
-range low (suc n) = low ∷ range (suc low) n
-
-or_true : (a : Bool) → (a || true) ≡ true
-or_true true = refl
-or_true false = refl
-
-in_range : (low n b : ℕ) → low ≤ b → b < low + n → member (range low n) b ≡ true
-unfolding range member
-in_range low zero b at_least below = absurd (omega (arith, at_least, below))
-in_range low (suc n) b at_least below = elim (eqb_tells b low) [
-  | inl w ↦ rw w.0 refl
-  | inr w ↦ (
-      let other : b ≢ low = w.1 in
-      let rest : member (range (suc low) n) b ≡ true = in_range (suc low) n b (omega (arith, at_least, other)) (omega (arith, below)) in
-      rw rest (or_true (b == low))
-      )
-]
-
 -- the digits
 ten : List ℕ
 ten = range 48 10
@@ -96,7 +60,7 @@ digit_word b h = member_passes is_word_byte ten b h refl
 
 digit_front : (b : ℕ) → member ten b ≡ true → IsFront b
 unfolding passes ten range
-digit_front b h = record { gap = not_so (is_gap b) (member_passes (λ x. not (is_gap x)) ten b h refl); shown = not_so (b == 37) (member_passes (λ x. not (x == 37)) ten b h refl) }
+digit_front b h = record { gap = not-true (is_gap b) (member_passes (λ x. not (is_gap x)) ten b h refl); shown = not-true (b == 37) (member_passes (λ x. not (x == 37)) ten b h refl) }
 
 -- what is left of a word by these digits and dots
 left_by : ℕ → List ℕ → List ℕ → List ℕ
@@ -234,9 +198,6 @@ numbered_by true r n ply san rest low =
     number_reaches r n ply (spaced (columns n (length (number ply))) san ++ rest) low (stops_there _ (halts_append (spaced (columns n (length (number ply))) san) rest (spaced_halts (columns n (length (number ply))) san some)))
 numbered_by false r n ply san rest low = reaches_none r (spaced n san ++ rest)
 
-around : (a b c d : List ℕ) → (a ++ (b ++ c)) ++ d ≡ a ++ (b ++ (c ++ d))
-around a b c d = append_assoc a (b ++ c) d ∙ ap (λ (l : List ℕ). a ++ l) (append_assoc b c d)
-
 moves_reach : (n ply : ℕ) (p : State) (ms : List Move) (k : ℕ) (q : State) (text tail : List ℕ) (r : Reader) → ply + length ms < 2 ^ 64 → AreMoves n ply p ms k q text → r.here ≡ p → r.depth ≡ 0 → Stops is_word_byte tail
     → Reaches r (text ++ tail) (after r ms q) tail
 unfolding AreMoves
@@ -301,90 +262,33 @@ heads : (games : List (List Move)) (headed : Bool) (text : List ℕ) → Goes He
 unfolding Goes
 heads games headed text = (refl, refl)
 
--- a tag pair, and the line feed behind it
-tag_reaches : (games : List (List Move)) (headed : Bool) (own more : List ℕ) → StartsWith (own ++ (10 ∷ more)) own (10 ∷ more) → sign_of English own ≡ Heads → Shows more → Reaches (at_game games headed) (own ++ (10 ∷ more)) (at_game games true) more
-tag_reaches games headed own more starts sign shows =
-    reaches_then (at_game games headed) (at_game games true) (at_game games true) (own ++ (10 ∷ more)) (10 ∷ more) more
-    (reaches_one (at_game games headed) (at_game games true) (own ++ (10 ∷ more)) own (10 ∷ more) starts (subst (λ (x : Sign). Goes x (at_game games headed) (said English own) (at_game games true)) (sym sign) (heads games headed (said English own))))
-    (feed_reaches (at_game games true) more shows)
-
-event_starts : (rest : List ℕ) → StartsWith (codes "[Event \"?\"]" ++ rest) (codes "[Event \"?\"]") rest
-unfolding kind_of tag_from
-event_starts rest = record { first = 91; more = codes "Event \"?\"]" ++ rest; n = 10; is = refl; long = refl; token_is = refl; rest_is = refl }
-
-event_sign : sign_of English (codes "[Event \"?\"]") ≡ Heads
-unfolding kind_of tag_name tag_value
-event_sign = refl
-
-site_starts : (rest : List ℕ) → StartsWith (codes "[Site \"?\"]" ++ rest) (codes "[Site \"?\"]") rest
-unfolding kind_of tag_from
-site_starts rest = record { first = 91; more = codes "Site \"?\"]" ++ rest; n = 9; is = refl; long = refl; token_is = refl; rest_is = refl }
-
-site_sign : sign_of English (codes "[Site \"?\"]") ≡ Heads
-unfolding kind_of tag_name tag_value
-site_sign = refl
-
-date_starts : (rest : List ℕ) → StartsWith (codes "[Date \"????.??.??\"]" ++ rest) (codes "[Date \"????.??.??\"]") rest
-unfolding kind_of tag_from
-date_starts rest = record { first = 91; more = codes "Date \"????.??.??\"]" ++ rest; n = 18; is = refl; long = refl; token_is = refl; rest_is = refl }
-
-date_sign : sign_of English (codes "[Date \"????.??.??\"]") ≡ Heads
-unfolding kind_of tag_name tag_value
-date_sign = refl
-
-round_starts : (rest : List ℕ) → StartsWith (codes "[Round \"?\"]" ++ rest) (codes "[Round \"?\"]") rest
-unfolding kind_of tag_from
-round_starts rest = record { first = 91; more = codes "Round \"?\"]" ++ rest; n = 10; is = refl; long = refl; token_is = refl; rest_is = refl }
-
-round_sign : sign_of English (codes "[Round \"?\"]") ≡ Heads
-unfolding kind_of tag_name tag_value
-round_sign = refl
-
-white_starts : (rest : List ℕ) → StartsWith (codes "[White \"?\"]" ++ rest) (codes "[White \"?\"]") rest
-unfolding kind_of tag_from
-white_starts rest = record { first = 91; more = codes "White \"?\"]" ++ rest; n = 10; is = refl; long = refl; token_is = refl; rest_is = refl }
-
-white_sign : sign_of English (codes "[White \"?\"]") ≡ Heads
-unfolding kind_of tag_name tag_value
-white_sign = refl
-
-black_starts : (rest : List ℕ) → StartsWith (codes "[Black \"?\"]" ++ rest) (codes "[Black \"?\"]") rest
-unfolding kind_of tag_from
-black_starts rest = record { first = 91; more = codes "Black \"?\"]" ++ rest; n = 10; is = refl; long = refl; token_is = refl; rest_is = refl }
-
-black_sign : sign_of English (codes "[Black \"?\"]") ≡ Heads
-unfolding kind_of tag_name tag_value
-black_sign = refl
-
-result_tag_starts : (rest : List ℕ) → StartsWith (codes "[Result \"*\"]" ++ rest) (codes "[Result \"*\"]") rest
-unfolding kind_of tag_from
-result_tag_starts rest = record { first = 91; more = codes "Result \"*\"]" ++ rest; n = 11; is = refl; long = refl; token_is = refl; rest_is = refl }
-
-result_tag_sign : sign_of English (codes "[Result \"*\"]") ≡ Heads
-unfolding kind_of tag_name tag_value
-result_tag_sign = refl
+-- a tag pair and the line feed behind it, before what leads on
+tag_reaches : (games : List (List Move)) (headed : Bool) (own mid more : List ℕ) (n : ℕ) → tag_from 0 Bare (own ++ (10 ∷ mid)) ≡ Some n
+    → take n (own ++ (10 ∷ mid)) ≡ own → drop n (own ++ (10 ∷ mid)) ≡ 10 ∷ mid → sign_of English (91 ∷ own) ≡ Heads → Shows mid
+    → Reaches (at_game games true) mid (at_game games true) more → Reaches (at_game games headed) (91 ∷ (own ++ (10 ∷ mid))) (at_game games true) more
+unfolding kind_of
+tag_reaches games headed own mid more n long token rest sign shows leads =
+    let start = at_game games headed in
+    let on = at_game games true in
+    let starts : StartsWith (91 ∷ (own ++ (10 ∷ mid))) (91 ∷ own) (10 ∷ mid) =
+    record { first = 91; more = own ++ (10 ∷ mid); n = n; is = refl; long = long; token_is = ap (λ (l : List ℕ). 91 ∷ l) (sym token); rest_is = sym rest } in
+    let goes = subst (λ (x : Sign). Goes x start (said English (91 ∷ own)) on) (sym sign) (heads games headed (said English (91 ∷ own))) in
+    reaches_then start on on (91 ∷ (own ++ (10 ∷ mid))) (10 ∷ mid) more (reaches_one start on (91 ∷ (own ++ (10 ∷ mid))) (91 ∷ own) (10 ∷ mid) starts goes)
+    (reaches_then on on on (10 ∷ mid) mid more (feed_reaches on mid shows) leads)
 
 -- the seven tags, and the empty line behind them
 tags_reach : (games : List (List Move)) (more : List ℕ) → Shows more → Reaches (at_game games false) (tags ++ more) (at_game games true) more
-unfolding Shows
+unfolding Shows kind_of tag_from tag_name tag_value
 tags_reach games more shows =
-    let on = at_game games true in
-    let more7 = 10 ∷ more in
-    let more6 = codes "[Result \"*\"]" ++ (10 ∷ more7) in
-    let more5 = codes "[Black \"?\"]" ++ (10 ∷ more6) in
-    let more4 = codes "[White \"?\"]" ++ (10 ∷ more5) in
-    let more3 = codes "[Round \"?\"]" ++ (10 ∷ more4) in
-    let more2 = codes "[Date \"????.??.??\"]" ++ (10 ∷ more3) in
-    let more1 = codes "[Site \"?\"]" ++ (10 ∷ more2) in
-    let last = feed_reaches on more shows in
-    let step6 = reaches_then on on on (codes "[Result \"*\"]" ++ (10 ∷ more7)) more7 more (tag_reaches games true (codes "[Result \"*\"]") more7 (result_tag_starts (10 ∷ more7)) result_tag_sign refl) last in
-    let step5 = reaches_then on on on (codes "[Black \"?\"]" ++ (10 ∷ more6)) more6 more (tag_reaches games true (codes "[Black \"?\"]") more6 (black_starts (10 ∷ more6)) black_sign refl) step6 in
-    let step4 = reaches_then on on on (codes "[White \"?\"]" ++ (10 ∷ more5)) more5 more (tag_reaches games true (codes "[White \"?\"]") more5 (white_starts (10 ∷ more5)) white_sign refl) step5 in
-    let step3 = reaches_then on on on (codes "[Round \"?\"]" ++ (10 ∷ more4)) more4 more (tag_reaches games true (codes "[Round \"?\"]") more4 (round_starts (10 ∷ more4)) round_sign refl) step4 in
-    let step2 = reaches_then on on on (codes "[Date \"????.??.??\"]" ++ (10 ∷ more3)) more3 more (tag_reaches games true (codes "[Date \"????.??.??\"]") more3 (date_starts (10 ∷ more3)) date_sign refl) step3 in
-    let step1 = reaches_then on on on (codes "[Site \"?\"]" ++ (10 ∷ more2)) more2 more (tag_reaches games true (codes "[Site \"?\"]") more2 (site_starts (10 ∷ more2)) site_sign refl) step2 in
-    let step0 = reaches_then (at_game games false) on on (codes "[Event \"?\"]" ++ (10 ∷ more1)) more1 more (tag_reaches games false (codes "[Event \"?\"]") more1 (event_starts (10 ∷ more1)) event_sign refl) step1 in
-    step0
+    let on = tag_reaches games true in
+    let from = λ (k : ℕ). drop k tags ++ more in
+    let result = on (codes "Result \"*\"]") (from 92) more 11 refl refl refl refl refl (feed_reaches (at_game games true) more shows) in
+    let black = on (codes "Black \"?\"]") (from 79) more 10 refl refl refl refl refl result in
+    let white = on (codes "White \"?\"]") (from 67) more 10 refl refl refl refl refl black in
+    let round = on (codes "Round \"?\"]") (from 55) more 10 refl refl refl refl refl white in
+    let date = on (codes "Date \"????.??.??\"]") (from 43) more 18 refl refl refl refl refl round in
+    let site = on (codes "Site \"?\"]") (from 23) more 9 refl refl refl refl refl date in
+    tag_reaches games false (codes "Event \"?\"]") (from 12) more 10 refl refl refl refl refl site
 
 first_number : (y z : List ℕ) → Shows (((decimal 1 ++ codes ".") ++ y) ++ z)
 unfolding Shows

@@ -1,20 +1,13 @@
 -- The bytes of texts that are written: of moves, and of numbers.
-use Rattle.std.proofs.Common.{◌≡◌, ◌≢◌, ℕ, ◌+◌, ◌<◌, ◌≤◌, inl, inr, Bool, true, false, List, [], ◌∷◌, ◌++◌, Option, Some, None, refl, sym, ap, subst, arith}
-use Rattle.std.specs.Prelude.{◌&&◌, ◌||◌, ◌==◌, codes}
-use Rattle.std.proofs.lemmas.Bool.Decides.{eqb_tells}
+use Rattle.pg_pgn.proofs.Common.{◌≡◌, ◌≢◌, ℕ, ◌+◌, ◌<◌, ◌≤◌, inl, inr, Bool, true, false, List, [], ◌∷◌, ◌++◌, Option, Some, None, refl, sym, ap, subst, arith, ◌&&◌, ◌||◌, ◌==◌, codes, eqb_tells, State, Move, IsLegal, Stands, IsForm, IsSan, IsSignOf, and_parts, zero, suc, or_right}
 use Rattle.pg_board.specs.declared.man.Kind.{Kind}
 use Rattle.pg_board.specs.declared.man.Kind.TheVariants.{Pawn, Knight, Bishop, Rook, Queen, King}
 use Rattle.pg_board.specs.Squares.{file, rank}
 use Rattle.pg_position.specs.declared.rights.Wing.TheVariants.{KingSide, QueenSide}
-use Rattle.pg_position.specs.declared.state.State.{State}
-use Rattle.pg_position.specs.declared.moves.Move.{Move}
-use Rattle.pg_position.specs.Step.{IsLegal}
 use Rattle.pg_san.specs.declared.cores.Core.{Core}
 use Rattle.pg_san.specs.declared.said.Form.{Form}
 use Rattle.pg_san.specs.declared.said.Form.TheVariants.{Castles, Moves}
 use Rattle.pg_san.specs.Spelling.{IsOfBoard, file_text, rank_text, square_text, letter_text, cross_text, promotion_text, written_file, core_text, form_text}
-use Rattle.pg_position.specs.Position.{Stands}
-use Rattle.pg_san.specs.Writing.{IsForm, IsSan, IsSignOf}
 use Rattle.pg_san.proofs.SpellLemmas.{IsCanonical, is_canonical}
 
 -- ---- bytes of a list
@@ -30,17 +23,13 @@ unfoldable pub Every : (ℕ → Bool) → List ℕ → Type 0
 Every p [] = Unit {0}
 Every p (x ∷ xs) = (p x ≡ true) × Every p xs
 
-both : (a b : Bool) → (a && b) ≡ true → (a ≡ true) × (b ≡ true)
-both true b h = (refl, h)
-both false b h = absurd cc
-
 -- a test that passes for each of a list passes for one of it
 pub member_passes : (p : ℕ → Bool) (own : List ℕ) (b : ℕ) → member own b ≡ true → passes p own ≡ true → p b ≡ true
 unfolding member passes
 member_passes p [] b h all = absurd cc
 member_passes p (x ∷ xs) b h all = elim (eqb_tells b x) [
-  | inl w ↦ subst (λ (y : ℕ). p y ≡ true) (sym w.1) (both (p x) (passes p xs) all).0
-  | inr w ↦ member_passes p xs b (subst (λ (t : Bool). (t || member xs b) ≡ true) w.0 h) (both (p x) (passes p xs) all).1
+  | inl w ↦ subst (λ (y : ℕ). p y ≡ true) (sym w.1) (and_parts (p x) (passes p xs) all).0
+  | inr w ↦ member_passes p xs b (subst (λ (t : Bool). (t || member xs b) ≡ true) w.0 h) (and_parts (p x) (passes p xs) all).1
 ]
 
 pub every_append : (p : ℕ → Bool) (xs ys : List ℕ) → Every p xs → Every p ys → Every p (xs ++ ys)
@@ -54,40 +43,20 @@ every_so p q [] f h = tt
 every_so p q (x ∷ xs) f h = (f x h.0, every_so p q xs f h.1)
 
 -- ---- small numbers
-unfoldable pub one_to_eight : List ℕ
-one_to_eight = 1 ∷ 2 ∷ 3 ∷ 4 ∷ 5 ∷ 6 ∷ 7 ∷ 8 ∷ []
+unfoldable pub range : ℕ → ℕ → List ℕ
+range low zero = []
+range low (suc n) = low ∷ range (suc low) n
 
-at_one : (own : List ℕ) (f n : ℕ) → f ≡ n → member own n ≡ true → member own f ≡ true
-at_one own f n e h = subst (λ (x : ℕ). member own x ≡ true) (sym e) h
-
-pub in_eight : (f : ℕ) → 1 ≤ f → f ≤ 8 → member one_to_eight f ≡ true
-unfolding member one_to_eight
-in_eight f low high = elim (eqb_tells f 1) [
-  | inl w ↦ at_one one_to_eight f 1 w.1 refl
-  | inr a ↦ elim (eqb_tells f 2) [
-    | inl w ↦ at_one one_to_eight f 2 w.1 refl
-    | inr b ↦ elim (eqb_tells f 3) [
-      | inl w ↦ at_one one_to_eight f 3 w.1 refl
-      | inr c ↦ elim (eqb_tells f 4) [
-        | inl w ↦ at_one one_to_eight f 4 w.1 refl
-        | inr d ↦ elim (eqb_tells f 5) [
-          | inl w ↦ at_one one_to_eight f 5 w.1 refl
-          | inr e ↦ elim (eqb_tells f 6) [
-            | inl w ↦ at_one one_to_eight f 6 w.1 refl
-            | inr g ↦ elim (eqb_tells f 7) [
-              | inl w ↦ at_one one_to_eight f 7 w.1 refl
-              | inr h ↦ (
-                  let n1 : f ≢ 1 = a.1 in let n2 : f ≢ 2 = b.1 in let n3 : f ≢ 3 = c.1 in let n4 : f ≢ 4 = d.1 in
-                  let n5 : f ≢ 5 = e.1 in let n6 : f ≢ 6 = g.1 in let n7 : f ≢ 7 = h.1 in
-                  let last : f ≡ 8 = omega (arith, low, high, n1, n2, n3, n4, n5, n6, n7) in
-                  at_one one_to_eight f 8 last refl
-                  )
-            ]
-          ]
-        ]
-      ]
-    ]
-  ]
+pub in_range : (low n b : ℕ) → low ≤ b → b < low + n → member (range low n) b ≡ true
+unfolding range member
+in_range low zero b at_least below = absurd (omega (arith, at_least, below))
+in_range low (suc n) b at_least below = elim (eqb_tells b low) [
+  | inl w ↦ rw w.0 refl
+  | inr w ↦ (
+      let other : b ≢ low = w.1 in
+      let rest : member (range (suc low) n) b ≡ true = in_range (suc low) n b (omega (arith, at_least, other)) (omega (arith, below)) in
+      rw rest (or_right (b == low) true refl)
+      )
 ]
 
 -- ---- the text of a move
@@ -98,22 +67,22 @@ alphabet = codes "KQRBNOabcdefgh12345678x=+#-"
 unfoldable pub initials : List ℕ
 initials = codes "KQRBNOabcdefgh"
 
-by_file : (p : ℕ → Bool) (f : ℕ) → passes (λ x. p (96 + x)) one_to_eight ≡ true → 1 ≤ f → f ≤ 8 → p (96 + f) ≡ true
-by_file p f all low high = member_passes (λ x. p (96 + x)) one_to_eight f (in_eight f low high) all
+by_file : (p : ℕ → Bool) (f : ℕ) → passes (λ x. p (96 + x)) (range 1 8) ≡ true → 1 ≤ f → f ≤ 8 → p (96 + f) ≡ true
+by_file p f all low high = member_passes (λ x. p (96 + x)) (range 1 8) f (in_range 1 8 f low (omega (arith, high))) all
 
-by_rank : (p : ℕ → Bool) (r : ℕ) → passes (λ x. p (48 + x)) one_to_eight ≡ true → 1 ≤ r → r ≤ 8 → p (48 + r) ≡ true
-by_rank p r all low high = member_passes (λ x. p (48 + x)) one_to_eight r (in_eight r low high) all
+by_rank : (p : ℕ → Bool) (r : ℕ) → passes (λ x. p (48 + x)) (range 1 8) ≡ true → 1 ≤ r → r ≤ 8 → p (48 + r) ≡ true
+by_rank p r all low high = member_passes (λ x. p (48 + x)) (range 1 8) r (in_range 1 8 r low (omega (arith, high))) all
 
 file_is : (f : ℕ) → 1 ≤ f → f ≤ 8 → member alphabet (96 + f) ≡ true
-unfolding member alphabet passes one_to_eight
+unfolding member alphabet passes range
 file_is f low high = by_file (member alphabet) f refl low high
 
 file_first : (f : ℕ) → 1 ≤ f → f ≤ 8 → member initials (96 + f) ≡ true
-unfolding member initials passes one_to_eight
+unfolding member initials passes range
 file_first f low high = by_file (member initials) f refl low high
 
 rank_is : (r : ℕ) → 1 ≤ r → r ≤ 8 → member alphabet (48 + r) ≡ true
-unfolding member alphabet passes one_to_eight
+unfolding member alphabet passes range
 rank_is r low high = by_rank (member alphabet) r refl low high
 
 file_are : (f : Option ℕ) → IsOfBoard f → Every (member alphabet) (file_text f)

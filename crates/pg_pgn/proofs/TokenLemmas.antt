@@ -1,9 +1,5 @@
 -- The token at the front of a text.
-use Rattle.std.proofs.Common.{◌≡◌, ℕ, inl, inr, List, ◌∷◌, None, refl}
-use Rattle.pg_pgn.specs.declared.tokens.TokenKind.{TokenKind}
-use Rattle.pg_pgn.specs.declared.tokens.TokenKind.TheVariants.{Gap, LineEnd, Comment, LineComment, Tag, Glyph, Opens, Closes, Star, Word}
-use Rattle.pg_pgn.specs.Tokens.{kind_of, more_len}
-use Rattle.pg_pgn.specs.Steps.{IsOpen, open_fault}
+use Rattle.pg_pgn.proofs.Common.{◌≡◌, ℕ, inl, inr, List, ◌∷◌, None, refl, TokenKind, Gap, LineEnd, Comment, LineComment, Tag, Glyph, Opens, Closes, Star, Word, kind_of, more_len, IsOpen, open_fault}
 
 is_open_by : (text : List ℕ) (first : ℕ) (more : List ℕ) (kind : TokenKind) → text ≡ first ∷ more → kind_of first ≡ kind → more_len kind more ≡ None → IsOpen text (open_fault kind)
 is_open_by text first more Comment e k none = inl ((first, more, e, k, none), refl)

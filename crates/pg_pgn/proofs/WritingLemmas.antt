@@ -1,23 +1,7 @@
 -- The text of a game grows by one move more, and that of games by one game.
-use Rattle.std.proofs.Common.{◌≡◌, ◌≢◌, ℕ, suc, ◌+◌, ◌<◌, ◌≤◌, List, [], ◌∷◌, ◌++◌, Option, Some, length, get_or, take, drop, refl, sym, ap, subst, arith, append_assoc, append-nil, ◌∙◌}
-use Rattle.std.proofs.KnownBytes.{Appends-nil, Appends-trans}
-use Rattle.std.proofs.lemmas.List.{take_more, take_all, take-append-drop, length-take-le}
+use Rattle.pg_pgn.proofs.Common.{◌≡◌, ◌≢◌, ℕ, ◌+◌, ◌<◌, ◌≤◌, List, [], ◌∷◌, ◌++◌, Option, Some, length, get_or, take, drop, refl, sym, ap, subst, arith, append_assoc, append-nil, ◌∙◌, Appends-nil, Appends-trans, take_more, take_all, take-append-drop, length-take-le, codes, Ok, Err, OnOk, IfOk, slice_get, Appends, AddsSome, State, Move, array_state, IsGame, IsPosition, Legal, IsLegal, array_position, one_result, legal_position, IsFromArray, IsSan, tags, columns, spaced, number_text, number_columns, AreMoves, IsGameText, AreFurther, IsPgnText, AddsPly, AddsMoves, AddsAllMoves, front_at}
 use Rattle.std.proofs.lemmas.Option.{get_or_from_slice_get}
-use Rattle.std.proofs.Math.Seq.{drop-cons}
-use Rattle.std.specs.Prelude.{codes, Result, Ok, Err, OnOk, IfOk, slice_get}
-use Rattle.std.specs.Io.KnownBytes.{Appends}
-use Rattle.pg_certificate.specs.Pushing.{AddsSome}
-use Rattle.pg_position.specs.declared.state.State.{State}
-use Rattle.pg_position.specs.declared.moves.Move.{Move}
-use Rattle.pg_position.specs.Array.{array_state}
-use Rattle.pg_position.specs.Game.{IsGame}
-use Rattle.pg_position.specs.Position.{IsPosition}
-use Rattle.pg_position.specs.Step.{Legal, IsLegal}
-use Rattle.pg_position.proofs.ArrayLemmas.{array_position}
-use Rattle.pg_position.proofs.FutureLemmas.{one_result, legal_position}
-use Rattle.pg_san.specs.Games.{IsFromArray}
-use Rattle.pg_san.specs.Writing.{IsSan}
-use Rattle.pg_pgn.specs.Writing.{tags, columns, spaced, number_text, number_columns, AreMoves, IsGameText, AreFurther, IsPgnText, AddsPly, AddsMoves, AddsAllMoves}
+use Rattle.std.specs.Prelude.{Result}
 
 -- ---- one move
 -- what is written for a move behind n columns
@@ -32,7 +16,7 @@ unfolding AreMoves
 one_move n ply p m r san legal is =
     (r, san, [], legal, is, (refl, refl, refl), ap (λ (l : List ℕ). number_text n ply ++ l) (sym (append-nil (spaced (number_columns n ply) san))))
 
-around : (number word rest more : List ℕ) → (number ++ (word ++ rest)) ++ more ≡ number ++ (word ++ (rest ++ more))
+pub around : (number word rest more : List ℕ) → (number ++ (word ++ rest)) ++ more ≡ number ++ (word ++ (rest ++ more))
 around number word rest more =
     append_assoc number (word ++ rest) more ∙ ap (λ (l : List ℕ). number ++ l) (append_assoc word rest more)
 
@@ -78,11 +62,6 @@ one_more game ply n m p q k a b c low at (text, moves, grows) legal (san, is, sa
       Appends-trans a b c text (move_text n ply san) grows more,
     )
 
-next_at : (game : List Move) (n : ℕ) (m : Move) → n < length game → m ≡ get_or game n m → drop n game ≡ m ∷ drop (n + 1) game
-next_at game n m low at =
-    let k : n + 1 ≡ suc n = omega arith in
-    rw k (drop-cons game n m low ∙ ap (λ (x : Move). x ∷ drop (suc n) game) (sym at))
-
 -- what comes behind the first moves of a game is legal there
 legal_behind : (p : State) (game : List Move) (q : State) (m : Move) (rest : List Move) (r : State) → IsPosition p → IsGame p game q → IsGame p (game ++ m ∷ rest) r → IsLegal q m
 legal_behind p [] q m rest r pos played (s, step, other) = (s, subst (λ (x : State). Legal x m s) played step)
@@ -93,7 +72,7 @@ legal_behind p (g ∷ gs) q m rest r pos (n, first, played) (s, step, other) =
 pub legal_next : (game : List Move) (n k : ℕ) (m : Move) (p : State) (a b : Option (List ℕ)) → n < length game → m ≡ get_or game n m → IsFromArray game → AddsMoves game n k p a b → IsLegal p m
 unfolding IsFromArray
 legal_next game n k m p a b low at (r, played) (text, moves, grows) =
-    let whole : game ≡ take n game ++ m ∷ drop (n + 1) game = sym (take-append-drop n game) ∙ ap (λ (x : List Move). take n game ++ x) (next_at game n m low at) in
+    let whole : game ≡ take n game ++ m ∷ drop (n + 1) game = sym (take-append-drop n game) ∙ ap (λ (x : List Move). take n game ++ x) (front_at game n m low at) in
     legal_behind array_state (take n game) p m (drop (n + 1) game) r array_position (moves_game 0 0 array_state (take n game) k p text moves) (subst (λ (x : List Move). IsGame array_state x r) whole played)
 
 pub all_moves : (game : List Move) (n k : ℕ) (p : State) (a b : Option (List ℕ)) → length game ≤ n → AddsMoves game n k p a b → AddsAllMoves game k a b
@@ -151,10 +130,6 @@ one_more_game gs i g low is =
     take_more gs i g low ∙ ap (λ (x : List Move). take i gs ++ x ∷ []) (get_or_from_slice_get gs i g g is)
 
 -- ---- answers
-pub on_ok : {A E : Type 0} (r : Result A E) (P Q : Type 0) → (P → Q) → OnOk r P → OnOk r Q
-on_ok (Ok a) P Q f h = f h
-on_ok (Err e) P Q f h = h
-
 pub ply_written : {E : Type 0} (k : Result ℕ E) (n ply mid : ℕ) (p : State) (m : Move) (san word : List ℕ) (a b c : Option (List ℕ)) → IsSan p m san → word ≡ san → Appends a b (number_text n ply) → mid ≡ number_columns n ply
     → OnOk k (Appends b c (spaced mid word)) → IfOk k (λ j. j ≡ columns mid (length word)) → IfOk k (λ j. AddsPly n ply p m j a c)
 ply_written (Err e) n ply mid p m san word a b c is same number at text columned = columned

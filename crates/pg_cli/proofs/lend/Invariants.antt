@@ -1,4 +1,4 @@
-use Rattle.std.proofs.Common.{◌≡◌}
+use Rattle.pg_cli.proofs.Common.{◌≡◌}
 use Rattle.pg_cli.proofs.lend.Given as goal
 
 -- what is asked stays while bounds are added

@@ -1,7 +1,5 @@
 -- What a status or a refusal says of what was asked, it says of the command and its words.
-use Rattle.std.proofs.Common.{inl, inr}
-use Rattle.clap.specs.Words.{found_of, rows_of}
-use Rattle.pg_cli.specs.Answers.{IsGivenBy, IsNamedBy}
+use Rattle.pg_cli.proofs.Common.{inl, inr, found_of, rows_of, IsGivenBy, IsNamedBy}
 use Rattle.pg_cli.proofs.EndLemmas.{asked_refused, asked_says}
 use Rattle.pg_cli.proofs.StatusLemmas.{tells, tells_why}
 use Rattle.pg_cli.proofs.perform.Goals as goal

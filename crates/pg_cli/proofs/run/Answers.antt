@@ -1,7 +1,4 @@
-use Rattle.std.proofs.Common.{◌⊎◌, inr}
-use Rattle.clap.specs.Words.{found_of, rows_of}
-use Rattle.pg_cli.specs.Answers.{IsGivenBy}
-use Rattle.pg_cli.specs.Ending.{IsUnready, refuses}
+use Rattle.pg_cli.proofs.Common.{◌⊎◌, inr, found_of, rows_of, IsGivenBy, IsUnready, refuses}
 use Rattle.pg_cli.proofs.CommandLemmas.{named}
 use Rattle.pg_cli.proofs.run.Goals as goal
 

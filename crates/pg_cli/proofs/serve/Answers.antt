@@ -1,9 +1,5 @@
 -- What a status or a refusal says, it says of what is asked.
-use Rattle.std.proofs.Common.{subst}
-use Rattle.clap.specs.Words.{found_of, rows_of}
-use Rattle.pg_checker.specs.Opening.{OpenedState}
-use Rattle.pg_cli.specs.Answers.{IsGivenBy}
-use Rattle.pg_cli.specs.Words.{says_of_certificate}
+use Rattle.pg_cli.proofs.Common.{subst, found_of, rows_of, OpenedState, IsGivenBy, says_of_certificate}
 use Rattle.pg_cli.proofs.EndLemmas.{opened_there, said_as, unsaid_as}
 use Rattle.pg_cli.proofs.StatusLemmas.{claims_nothing, tells, tells_why}
 use Rattle.pg_cli.proofs.serve.Goals as goal

@@ -1,4 +1,4 @@
-use Rattle.pg_texts.specs.Report.{IsReport}
+use Rattle.pg_cli.proofs.Common.{IsReport}
 use Rattle.pg_cli.proofs.StatusLemmas.{answered_alone, but_for_sink, has, has_on, unwritten}
 use Rattle.pg_cli.proofs.WrittenLemmas.{handed}
 use Rattle.pg_cli.proofs.answering.answer_on.Goals as goal

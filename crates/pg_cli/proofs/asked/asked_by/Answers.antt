@@ -1,8 +1,4 @@
-use Rattle.std.proofs.Common.{inl, subst, sym}
-use Rattle.clap.specs.Words.{found_of, rows_of}
-use Rattle.pg_cli.specs.Answers.{IsGivenBy}
-use Rattle.pg_cli.specs.Ending.{refuses}
-use Rattle.pg_cli.specs.declared.commands.Command.{Command}
+use Rattle.pg_cli.proofs.Common.{inl, subst, sym, found_of, rows_of, IsGivenBy, refuses, Command}
 use Rattle.pg_cli.proofs.asked.asked_by.Goals as goal
 
 pub returns-in-Err-clause-err : goal.returns-in-Err-clause-err

@@ -1,5 +1,4 @@
-use Rattle.std.proofs.Common.{ℕ, List, sym, subst}
-use Rattle.std.specs.Prelude.{Option}
+use Rattle.pg_cli.proofs.Common.{ℕ, List, sym, subst, Option}
 use Rattle.pg_cli.proofs.EndLemmas.{begun_of}
 use Rattle.pg_cli.proofs.asked.carried_from.Goals as goal
 

@@ -1,7 +1,4 @@
-use Rattle.std.specs.Prelude.{codes}
-use Rattle.clap.specs.Words.{found_of, rows_of}
-use Rattle.pg_tariff_files.specs.Files.{IsUnread}
-use Rattle.pg_cli.specs.Words.{spelled}
+use Rattle.pg_cli.proofs.Common.{codes, found_of, rows_of, IsUnread, spelled}
 use Rattle.pg_cli.proofs.EndLemmas.{of_input, opened_by, unopened_by}
 use Rattle.pg_cli.proofs.StatusLemmas.{is_of_file}
 use Rattle.pg_cli.proofs.asked.carrying_of.Goals as goal

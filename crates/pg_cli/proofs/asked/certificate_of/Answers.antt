@@ -1,6 +1,4 @@
-use Rattle.std.specs.Prelude.{codes}
-use Rattle.clap.specs.Words.{found_of, rows_of}
-use Rattle.pg_cli.specs.Words.{spelled}
+use Rattle.pg_cli.proofs.Common.{codes, found_of, rows_of, spelled}
 use Rattle.pg_cli.proofs.EndLemmas.{named_by, opened_there}
 use Rattle.pg_cli.proofs.asked.certificate_of.Goals as goal
 

@@ -1,6 +1,4 @@
-use Rattle.std.proofs.Common.{ap}
-use Rattle.pg_report.specs.declared.fault.AnswerRunFault.{AnswerRunFault}
-use Rattle.pg_cli.specs.declared.refusals.Refusal.TheVariants.{Answer}
+use Rattle.pg_cli.proofs.Common.{ap, AnswerRunFault, Answer}
 use Rattle.pg_cli.proofs.asked.opened_from.Goals as goal
 
 pub returns-in-Err : goal.returns-in-Err

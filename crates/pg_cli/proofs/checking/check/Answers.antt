@@ -1,5 +1,4 @@
-use Rattle.std.proofs.Common.{inl, inr}
-use Rattle.pg_cli.specs.Runs.{IsUnchecked}
+use Rattle.pg_cli.proofs.Common.{inl, inr, IsUnchecked}
 use Rattle.pg_cli.proofs.EndLemmas.{given_so, no_list}
 use Rattle.pg_cli.proofs.StatusLemmas.{tells, tells_why}
 use Rattle.pg_cli.proofs.checking.check.Goals as goal

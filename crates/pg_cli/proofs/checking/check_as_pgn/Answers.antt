@@ -1,9 +1,4 @@
-use Rattle.std.proofs.Common.{refl, subst, sym, true}
-use Rattle.pg_checker.specs.Cuts.{rules_by}
-use Rattle.pg_checker.specs.Terms.{terms}
-use Rattle.pg_report.specs.Run.{failures}
-use Rattle.pg_cli.specs.Runs.{IsFoundRefusal}
-use Rattle.pg_cli.specs.declared.refusals.Refusal.{Refusal}
+use Rattle.pg_cli.proofs.Common.{refl, subst, sym, true, rules_by, terms, failures, IsFoundRefusal, Refusal}
 use Rattle.pg_cli.proofs.StatusLemmas.{has, tells_why}
 use Rattle.pg_cli.proofs.checking.check_as_pgn.Goals as goal
 
@@ -20,6 +15,6 @@ returns-in-Ok g c =
       found = tells_why c.send.result _ _ c.send.ensures.err (λ r e. (
         t,
         failed,
-        subst (λ (x : Refusal). IsFoundRefusal l.problem.diagram l.problem.length l.games t failed x) (sym e) (c.in-Ok.ensures.headline, refl, c.in-Ok.ensures.accepted),
+        subst (λ (x : Refusal). IsFoundRefusal l.problem.diagram l.problem.length l.games t failed x) (sym e.0) (c.in-Ok.ensures.headline, refl, c.in-Ok.ensures.accepted),
       ));
     }

@@ -1,4 +1,4 @@
-use Rattle.pg_texts.specs.Report.{IsReport}
+use Rattle.pg_cli.proofs.Common.{IsReport}
 use Rattle.pg_cli.proofs.StatusLemmas.{but_for_sink, checked_alone, has, on_ok, unwritten}
 use Rattle.pg_cli.proofs.WrittenLemmas.{handed}
 use Rattle.pg_cli.proofs.checking.check_listed.Goals as goal

@@ -1,6 +1,4 @@
-use Rattle.pg_checker.specs.Cuts.{rules_by}
-use Rattle.pg_checker.specs.Terms.{terms}
-use Rattle.pg_report.specs.Run.{failures}
+use Rattle.pg_cli.proofs.Common.{rules_by, terms, failures}
 use Rattle.pg_cli.proofs.StatusLemmas.{tells_why}
 use Rattle.pg_cli.proofs.checking.check_on.Goals as goal
 

@@ -1,6 +1,4 @@
-use Rattle.std.proofs.Common.{List, ℕ, subst}
-use Rattle.std.specs.Prelude.{IfErr}
-use Rattle.pg_cli.specs.Runs.{IsReadFault}
+use Rattle.pg_cli.proofs.Common.{List, ℕ, subst, IfErr, IsReadFault}
 use Rattle.pg_cli.proofs.converting.problems_as.Goals as goal
 
 pub returns-then-is_pgn-clause-err : goal.returns-then-is_pgn-clause-err

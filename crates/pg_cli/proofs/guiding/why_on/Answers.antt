@@ -1,9 +1,4 @@
-use Rattle.std.proofs.Common.{inr, refl, subst, List, ℕ}
-use Rattle.pg_checker.specs.Cuts.{any_rules_by, rules_by}
-use Rattle.pg_checker.specs.Opening.{bytes_of}
-use Rattle.pg_checker.specs.Terms.{terms}
-use Rattle.pg_report.specs.Run.{failures}
-use Rattle.pg_guide.specs.Why.{IsOneLine, IsWhyFault}
+use Rattle.pg_cli.proofs.Common.{inr, refl, subst, List, ℕ, any_rules_by, rules_by, bytes_of, terms, failures, IsOneLine, IsWhyFault}
 use Rattle.pg_guide.specs.declared.fault.WhyFault.TheVariants.{Write}
 use Rattle.pg_cli.proofs.StatusLemmas.{but_for_sink, explained_alone, on_ok, unwritten}
 use Rattle.pg_cli.proofs.WrittenLemmas.{or_list, right_kept}

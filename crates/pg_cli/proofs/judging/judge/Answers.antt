@@ -1,5 +1,4 @@
-use Rattle.std.proofs.Common.{List, ℕ, subst}
-use Rattle.pg_cli.specs.Judging.{IsTextJudged}
+use Rattle.pg_cli.proofs.Common.{List, ℕ, subst, IsTextJudged}
 use Rattle.pg_cli.proofs.StatusLemmas.{tells}
 use Rattle.pg_cli.proofs.judging.judge.Goals as goal
 

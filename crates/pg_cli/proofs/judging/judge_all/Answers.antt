@@ -1,8 +1,4 @@
-use Rattle.std.proofs.Common.{◌≡◌, ◌∷◌, [], ap, refl, sym, subst, ◌∙◌}
-use Rattle.std.specs.Prelude.{ℕ}
-use Rattle.std.proofs.KnownBytes.{Appends-nil}
-use Rattle.pg_san.specs.GameText.{lines}
-use Rattle.pg_san.specs.TextLeft.{lines_left}
+use Rattle.pg_cli.proofs.Common.{◌≡◌, ◌∷◌, [], ap, refl, sym, subst, ◌∙◌, ℕ, Appends-nil, lines, lines_left}
 use Rattle.pg_cli.proofs.JudgeLemmas.{IsFar, all_judged, all_sound, cut_off, one_more}
 use Rattle.pg_cli.proofs.WrittenLemmas.{held_by}
 use Rattle.pg_cli.proofs.judging.judge_all.Goals as goal

@@ -1,9 +1,4 @@
-use Rattle.std.proofs.Common.{◌≡◌, ◌++◌, List, ℕ}
-use Rattle.pg_certificate.specs.Pushing.{AddsSome}
-use Rattle.pg_san.specs.GameText.{lines}
-use Rattle.pg_san.specs.TextLeft.{lines_left, length_left}
-use Rattle.pg_streams.specs.Buffer.{IsHandedOn}
-use Rattle.pg_cli.specs.Judging.{AreJudged}
+use Rattle.pg_cli.proofs.Common.{◌≡◌, ◌++◌, List, ℕ, AddsSome, lines, lines_left, length_left, IsHandedOn, AreJudged}
 use Rattle.pg_cli.proofs.WrittenLemmas.{held_by}
 use Rattle.pg_cli.proofs.judging.judge_all.Given as goal
 

@@ -1,7 +1,4 @@
-use Rattle.std.proofs.Common.{inl, inr, subst}
-use Rattle.std.specs.Prelude.{Option, IfSome}
-use Rattle.pg_judge.specs.Entries.{IsEntry}
-use Rattle.pg_judge.specs.declared.entry.Entry.{Entry}
+use Rattle.pg_cli.proofs.Common.{inl, inr, subst, Option, IfSome, IsEntry, Entry}
 use Rattle.pg_cli.proofs.JudgeLemmas.{bad_adds, place_adds, ruled_adds}
 use Rattle.pg_cli.proofs.WrittenLemmas.{held_by}
 use Rattle.pg_cli.proofs.judging.judge_line.Goals as goal

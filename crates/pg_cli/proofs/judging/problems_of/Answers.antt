@@ -1,4 +1,4 @@
-use Rattle.pg_cli.specs.Answers.{IsGivenBy}
+use Rattle.pg_cli.proofs.Common.{IsGivenBy}
 use Rattle.pg_cli.proofs.PgnLemmas.{gives_list, refused_there}
 use Rattle.pg_cli.proofs.judging.problems_of.Goals as goal
 

@@ -1,5 +1,4 @@
-use Rattle.std.proofs.Common.{◌∙◌, refl, sym}
-use Rattle.pg_cooks.specs.Cooks.{IsCooksReport}
+use Rattle.pg_cli.proofs.Common.{◌∙◌, refl, sym, IsCooksReport}
 use Rattle.pg_cooks.specs.declared.fault.CooksRunFault.TheVariants.{Write}
 use Rattle.pg_cli.proofs.KnowingLemmas.{found}
 use Rattle.pg_cli.proofs.StatusLemmas.{has, has_on, unwritten}

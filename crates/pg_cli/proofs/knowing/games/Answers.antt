@@ -1,4 +1,4 @@
-use Rattle.std.proofs.Common.{◌∙◌, sym}
+use Rattle.pg_cli.proofs.Common.{◌∙◌, sym}
 use Rattle.pg_cli.proofs.EndLemmas.{given_so}
 use Rattle.pg_cli.proofs.KnowingLemmas.{shown}
 use Rattle.pg_cli.proofs.StatusLemmas.{tells}

@@ -1,5 +1,4 @@
-use Rattle.std.proofs.Common.{refl}
-use Rattle.pg_cooks.specs.Standing.{IsGamesReport}
+use Rattle.pg_cli.proofs.Common.{refl, IsGamesReport}
 use Rattle.pg_cooks.specs.declared.fault.ListingFault.TheVariants.{Write}
 use Rattle.pg_cli.proofs.StatusLemmas.{has, on_ok, unwritten}
 use Rattle.pg_cli.proofs.WrittenLemmas.{handed}

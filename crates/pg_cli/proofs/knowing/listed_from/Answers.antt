@@ -1,5 +1,4 @@
-use Rattle.std.proofs.Common.{inl}
-use Rattle.std.specs.Prelude.{Result, Ok, Err, IfOk, IfErr}
+use Rattle.pg_cli.proofs.Common.{inl, Result, Ok, Err, IfOk, IfErr}
 use Rattle.pg_cli.proofs.EndLemmas.{listing_told, of_input, unlisted_so}
 use Rattle.pg_cli.proofs.StatusLemmas.{is_of_file}
 use Rattle.pg_cli.proofs.knowing.listed_from.Goals as goal

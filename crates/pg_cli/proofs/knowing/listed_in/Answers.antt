@@ -1,5 +1,4 @@
-use Rattle.std.proofs.Common.{inl, inr, refl, subst, List, ℕ}
-use Rattle.pg_san.specs.Listing.{IsListing, IsTextFault}
+use Rattle.pg_cli.proofs.Common.{inl, inr, refl, subst, List, ℕ, IsListing, IsTextFault}
 use Rattle.pg_cli.proofs.knowing.listed_in.Goals as goal
 
 pub returns-in-Err-clause-err : goal.returns-in-Err-clause-err

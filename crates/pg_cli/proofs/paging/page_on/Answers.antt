@@ -1,8 +1,4 @@
-use Rattle.std.proofs.Common.{inr, refl}
-use Rattle.pg_checker.specs.Cuts.{rules_by}
-use Rattle.pg_checker.specs.Opening.{bytes_of}
-use Rattle.pg_checker.specs.Terms.{terms}
-use Rattle.pg_streams.specs.Buffer.{sink_of}
+use Rattle.pg_cli.proofs.Common.{inr, refl, rules_by, bytes_of, terms, sink_of}
 use Rattle.pg_page.specs.declared.fault.PageFault.TheVariants.{Write}
 use Rattle.pg_cli.proofs.StatusLemmas.{on_ok, unwritten}
 use Rattle.pg_cli.proofs.WrittenLemmas.{held_by, or_list, page_kept}

@@ -1,9 +1,4 @@
-use Rattle.std.proofs.Common.{sym, subst, ℕ, List}
-use Rattle.std.specs.Prelude.{Option, None, Some, codes}
-use Rattle.clap.specs.Words.{found_of, rows_of}
-use Rattle.pg_fen.specs.Fields.{fields}
-use Rattle.pg_fen.specs.DiagramText.{diagram_of}
-use Rattle.pg_cli.specs.Words.{spelled, IsAsked}
+use Rattle.pg_cli.proofs.Common.{sym, subst, ℕ, List, Option, None, Some, codes, found_of, rows_of, fields, diagram_of, spelled, IsAsked}
 use Rattle.pg_cli.proofs.WordLemmas.{is_read, word_or_none}
 use Rattle.pg_cli.proofs.positions.board_in.Goals as goal
 

@@ -1,7 +1,5 @@
-use Rattle.std.proofs.Common.{subst, List, ℕ}
-use Rattle.std.proofs.KnownBytes.{Appends-kept}
+use Rattle.pg_cli.proofs.Common.{subst, List, ℕ, Appends-kept, SpellsPosition}
 use Rattle.pg_texts.specs.CountText.{IsCountRunFault}
-use Rattle.pg_texts.specs.MovesText.{SpellsPosition}
 use Rattle.pg_cli.proofs.StatusLemmas.{on_ok, unwritten}
 use Rattle.pg_cli.proofs.positions.count_on.Goals as goal
 

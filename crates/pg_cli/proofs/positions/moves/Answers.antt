@@ -1,4 +1,4 @@
-use Rattle.std.proofs.Common.{refl}
+use Rattle.pg_cli.proofs.Common.{refl}
 use Rattle.pg_cli.proofs.StatusLemmas.{has_on, tells_why}
 use Rattle.pg_cli.proofs.positions.moves.Goals as goal
 

@@ -1,5 +1,4 @@
-use Rattle.std.proofs.Common.{subst, List, ℕ}
-use Rattle.pg_texts.specs.MovesText.{IsMovesFault, IsMovesText, SpellsPosition}
+use Rattle.pg_cli.proofs.Common.{subst, List, ℕ, IsMovesFault, IsMovesText, SpellsPosition}
 use Rattle.pg_cli.proofs.StatusLemmas.{on_ok, unwritten}
 use Rattle.pg_cli.proofs.WrittenLemmas.{handed}
 use Rattle.pg_cli.proofs.positions.moves_on.Goals as goal

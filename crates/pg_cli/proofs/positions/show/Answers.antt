@@ -1,6 +1,4 @@
-use Rattle.std.proofs.Common.{refl}
-use Rattle.std.specs.Prelude.{codes}
-use Rattle.clap.specs.Words.{first_of, found_of, rows_of}
+use Rattle.pg_cli.proofs.Common.{refl, codes, first_of, found_of, rows_of}
 use Rattle.pg_cli.proofs.ShowLemmas.{length_given}
 use Rattle.pg_cli.proofs.StatusLemmas.{has_on, tells_why}
 use Rattle.pg_cli.proofs.positions.show.Goals as goal

@@ -1,4 +1,4 @@
-use Rattle.std.proofs.Common.{inl, inr}
+use Rattle.pg_cli.proofs.Common.{inl, inr}
 use Rattle.pg_report.specs.Showing.{IsShown}
 use Rattle.pg_cli.proofs.ShowLemmas.{unshown}
 use Rattle.pg_cli.proofs.StatusLemmas.{on_ok, unwritten}

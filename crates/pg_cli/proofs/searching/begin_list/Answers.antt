@@ -1,6 +1,4 @@
-use Rattle.std.proofs.Common.{sym}
-use Rattle.std.specs.Prelude.{None, codes}
-use Rattle.clap.specs.Words.{found_of}
+use Rattle.pg_cli.proofs.Common.{sym, None, codes, found_of}
 use Rattle.pg_cli.proofs.WordLemmas.{word_or_none}
 use Rattle.pg_cli.proofs.searching.begin_list.Goals as goal
 

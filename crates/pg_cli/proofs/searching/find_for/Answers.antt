@@ -1,9 +1,5 @@
-use Rattle.std.proofs.Common.{subst, sym}
-use Rattle.std.specs.Prelude.{Result, IfErr}
-use Rattle.pg_searcher.specs.declared.fault.SearchFault.{SearchFault}
+use Rattle.pg_cli.proofs.Common.{subst, sym, Result, IfErr, SearchFault, IsGivenUp, IsSearchRefusal, Refusal}
 use Rattle.pg_searcher.specs.declared.tariffs.FoundTariffs.{FoundTariffs}
-use Rattle.pg_cli.specs.Runs.{IsGivenUp, IsSearchRefusal}
-use Rattle.pg_cli.specs.declared.refusals.Refusal.{Refusal}
 use Rattle.pg_cli.proofs.EndLemmas.{kept_so}
 use Rattle.pg_cli.proofs.WordLemmas.{given_up}
 use Rattle.pg_cli.proofs.searching.find_for.Goals as goal

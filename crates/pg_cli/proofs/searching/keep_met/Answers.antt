@@ -1,4 +1,4 @@
-use Rattle.std.proofs.Common.{inl, inr}
+use Rattle.pg_cli.proofs.Common.{inl, inr}
 use Rattle.pg_cli.proofs.EndLemmas.{kept_or}
 use Rattle.pg_cli.proofs.searching.keep_met.Goals as goal
 

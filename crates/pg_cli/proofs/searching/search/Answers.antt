@@ -1,4 +1,4 @@
-use Rattle.std.proofs.Common.{inl, inr}
+use Rattle.pg_cli.proofs.Common.{inl, inr}
 use Rattle.pg_cli.proofs.EndLemmas.{file_or_search, given_so}
 use Rattle.pg_cli.proofs.StatusLemmas.{tells, tells_why}
 use Rattle.pg_cli.proofs.searching.search.Goals as goal

@@ -1,5 +1,4 @@
-use Rattle.pg_checker.specs.Cuts.{rules_by}
-use Rattle.pg_checker.specs.Terms.{terms}
+use Rattle.pg_cli.proofs.Common.{rules_by, terms}
 use Rattle.pg_cli.proofs.WordLemmas.{unfound}
 use Rattle.pg_cli.proofs.searching.search_in.Goals as goal
 

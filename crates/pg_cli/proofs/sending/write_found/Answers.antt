@@ -1,10 +1,6 @@
-use Rattle.std.proofs.Common.{subst, sym}
-use Rattle.pg_certificate.specs.Pushing.{AddsSome}
+use Rattle.pg_cli.proofs.Common.{refl, subst, sym, AddsSome, Finding, IsPgnText, games_of}
 use Rattle.pg_judge.specs.Rows.{IsWritten}
-use Rattle.pg_judge.specs.declared.ruling.Finding.{Finding}
 use Rattle.pg_judge.proofs.RowLemmas.{written}
-use Rattle.pg_pgn.specs.Writing.{IsPgnText}
-use Rattle.pg_cli.specs.Solving.{games_of}
 use Rattle.pg_cli.proofs.SolveLemmas.{no_games_sent}
 use Rattle.pg_cli.proofs.sending.write_found.Goals as goal
 
@@ -16,4 +12,5 @@ write_evidence-requires g c =
 pub returns-in-NotSettled : goal.returns-in-NotSettled
 returns-in-NotSettled g c =
     let held = g.W.Sink.held c.args.out.now in
-    subst (λ (f : Finding). AddsSome (IsPgnText (games_of c.args.entry.now.games f)) held held) (sym c.in-NotSettled.is) (no_games_sent held)
+    let sent = subst (λ (f : Finding). AddsSome (IsPgnText (games_of c.args.entry.now.games f)) held held) (sym c.in-NotSettled.is) (no_games_sent held) in
+    record { text = sent; runs = refl; fault = tt }

@@ -3,8 +3,8 @@ use Rattle.pg_cli.proofs.StatusLemmas.{has_on}
 use Rattle.pg_cli.proofs.WrittenLemmas.{handed}
 use Rattle.pg_cli.proofs.solving.report_finding.Goals as goal
 
-pub returns-in-Ok : goal.returns-in-Ok
-returns-in-Ok g c =
+pub returns-in-Ok-clause-ok : goal.returns-in-Ok-clause-ok
+returns-in-Ok-clause-ok g c =
     let finding = c.args.ruling.now.finding in
     has_on c.finished.result c.status_of.result _ _ c.finished.ensures.ok c.finished.ensures.handed (λ kept.
     let all = handed g.W.Sink.held c.args.out.now c.write_finding.new.out c.finished.new.out (IsTextOf c.args.entry.now finding) c.in-Ok.ensures.text.text kept in

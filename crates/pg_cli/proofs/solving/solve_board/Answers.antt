@@ -1,4 +1,4 @@
-use Rattle.std.specs.Prelude.{Some, None}
+use Rattle.pg_cli.proofs.Common.{Some, None}
 use Rattle.pg_cli.proofs.SolveLemmas.{as_asked}
 use Rattle.pg_cli.proofs.solving.solve_board.Goals as goal
 

@@ -7,4 +7,4 @@ returns-in-Some g c = of_some c.args.orders.now.as_pgn c.args.diagram.now c.in-S
 pub returns : goal.returns
 returns g c =
     of_some c.args.orders.now.as_pgn c.args.diagram.now c.length_of.result c.tell_finding.result _ _
-    (beside_some c.args.orders.now.as_pgn c.args.diagram.now c.length_of.result _ c.tell_finding.result _ _ c.tell_finding.ensures)
+    (beside_some c.args.orders.now.as_pgn c.args.diagram.now c.length_of.result _ c.tell_finding.result _ _ c.tell_finding.ensures.ok)

@@ -1,4 +1,4 @@
-use Rattle.clap.specs.Words.{found_of, rows_of}
+use Rattle.pg_cli.proofs.Common.{found_of, rows_of}
 use Rattle.pg_cli.proofs.WordLemmas.{is_of_words}
 use Rattle.pg_cli.proofs.spelling.problem_in.Goals as goal
 

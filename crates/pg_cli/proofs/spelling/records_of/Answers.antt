@@ -1,8 +1,4 @@
-use Rattle.std.proofs.Common.{◌∙◌}
-use Rattle.std.specs.Prelude.{codes}
-use Rattle.std.specs.Str.Parse.{ParsesUnsigned, ExplainsUnsignedError, HasUnsignedDigitsIfOk}
-use Rattle.clap.specs.Words.{found_of, one_of, rows_of}
-use Rattle.clap.proofs.WalkLemmas.{one_text-rows}
+use Rattle.pg_cli.proofs.Common.{◌∙◌, codes, ParsesUnsigned, ExplainsUnsignedError, HasUnsignedDigitsIfOk, found_of, one_of, rows_of, one_text-rows}
 use Rattle.pg_cli.proofs.WordLemmas.{number_given, number_missing}
 use Rattle.pg_cli.proofs.spelling.records_of.Goals as goal
 

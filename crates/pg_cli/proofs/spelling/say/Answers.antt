@@ -1,5 +1,4 @@
-use Rattle.std.proofs.Common.{codes, rules}
-use Rattle.clap.specs.Words.{found_of}
+use Rattle.pg_cli.proofs.Common.{codes, rules, found_of}
 use Rattle.pg_cli.proofs.WordLemmas.{flag_told, flag_missing}
 use Rattle.pg_cli.proofs.spelling.say.Goals as goal
 

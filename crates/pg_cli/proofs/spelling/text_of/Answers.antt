@@ -1,4 +1,4 @@
-use Rattle.clap.specs.Words.{found_of}
+use Rattle.pg_cli.proofs.Common.{found_of}
 use Rattle.pg_cli.proofs.WordLemmas.{word_given, word_missing}
 use Rattle.pg_cli.proofs.spelling.text_of.Goals as goal
 

@@ -1,4 +1,4 @@
-use Rattle.std.proofs.Common.{inl, inr, refl}
+use Rattle.pg_cli.proofs.Common.{inl, inr, refl}
 use Rattle.pg_cli.proofs.upgrading.upgrade_on.Goals as goal
 
 pub returns-in-Err-clause-err : goal.returns-in-Err-clause-err

@@ -1,10 +1,4 @@
-use Rattle.std.proofs.Common.{ap, codes, rules, ◌∙◌}
-use Rattle.std.specs.Io.KnownBytes.{Appends}
-use Rattle.pg_certificate.specs.Pushing.{AddsSome}
-use Rattle.pg_fen.specs.PlacementText.{placement_text}
-use Rattle.pg_texts.proofs.OutcomeLemmas.{on_ok}
-use Rattle.pg_texts.specs.Report.{labelled_text}
-use Rattle.pg_pgn.specs.Ends.{IsEndText}
+use Rattle.pg_pgn.proofs.Common.{ap, codes, rules, ◌∙◌, Appends, AddsSome, placement_text, on_ok, labelled_text, IsEndText}
 use Rattle.pg_pgn.proofs.EndLemmas.{end_lines}
 use Rattle.pg_pgn.proofs.ends.write_end.Goals as goal
 

@@ -1,7 +1,4 @@
-use Rattle.std.proofs.Common.{◌<◌, length, refl, sym, ◌∙◌, arith}
-use Rattle.pg_texts.proofs.ItemLemmas.{no_texts, one_text_more, all_texts}
-use Rattle.pg_pgn.specs.Ends.{IsEndText}
-use Rattle.pg_texts.proofs.ReportLemmas.{listed_game}
+use Rattle.pg_pgn.proofs.Common.{◌<◌, length, refl, sym, ◌∙◌, arith, no_texts, one_text_more, all_texts, IsEndText, listed_game}
 use Rattle.pg_pgn.proofs.ends.write_ends.Goals as goal
 
 pub loop-i-init : goal.loop-i-init

@@ -1,6 +1,4 @@
-use Rattle.std.proofs.Common.{◌≡◌, take}
-use Rattle.pg_certificate.specs.Pushing.{AddsSome}
-use Rattle.pg_pgn.specs.Ends.{AreEndTexts}
+use Rattle.pg_pgn.proofs.Common.{◌≡◌, take, AddsSome, AreEndTexts}
 use Rattle.pg_pgn.proofs.ends.write_ends.Given as goal
 
 -- the lines of the games so far were appended

@@ -1,6 +1,4 @@
-use Rattle.std.proofs.Common.{◌≡◌, ◌++◌, length}
-use Rattle.std.specs.Prelude.{string_bytes}
-use Rattle.pg_pgn.specs.Letters.{english}
+use Rattle.pg_pgn.proofs.Common.{◌≡◌, ◌++◌, length, string_bytes, english}
 use Rattle.pg_pgn.proofs.letters.write_english.Given as goal
 
 -- what was written, and the rest in English, is the whole word in English

@@ -1,5 +1,4 @@
-use Rattle.std.proofs.Common.{◌<◌, length, refl, sym, ◌∙◌, arith}
-use Rattle.pg_texts.proofs.ReportLemmas.{no_lines, one_line_more, all_lines}
+use Rattle.pg_pgn.proofs.Common.{◌<◌, length, refl, sym, ◌∙◌, arith, no_lines, one_line_more, all_lines}
 use Rattle.pg_pgn.proofs.listing.write_list.Goals as goal
 
 pub loop-i-init : goal.loop-i-init

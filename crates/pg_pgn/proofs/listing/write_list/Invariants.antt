@@ -1,6 +1,4 @@
-use Rattle.std.proofs.Common.{◌≡◌, take}
-use Rattle.pg_certificate.specs.Pushing.{AddsSome}
-use Rattle.pg_texts.specs.Report.{AreGameLines}
+use Rattle.pg_pgn.proofs.Common.{◌≡◌, take, AddsSome, AreGameLines}
 use Rattle.pg_pgn.proofs.listing.write_list.Given as goal
 
 -- the lines of the games so far were appended

@@ -1,5 +1,4 @@
-use Rattle.std.proofs.Common.{◌≡◌, ◌+◌, ◌≤◌, length}
-use Rattle.pg_pgn.specs.Places.{column_from}
+use Rattle.pg_pgn.proofs.Common.{◌≡◌, ◌+◌, ◌≤◌, length, column_from}
 use Rattle.pg_pgn.proofs.places.column_behind.Given as goal
 
 -- the rest leads where the whole does

@@ -1,5 +1,4 @@
-use Rattle.std.proofs.Common.{ℕ, List, ap, ◌∙◌}
-use Rattle.pg_pgn.specs.Places.{before, line_from, column_from}
+use Rattle.pg_pgn.proofs.Common.{ℕ, List, ap, ◌∙◌, before, line_from, column_from}
 use Rattle.pg_pgn.proofs.places.place_of.Goals as goal
 
 pub returns : goal.returns

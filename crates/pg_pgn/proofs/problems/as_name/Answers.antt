@@ -1,4 +1,4 @@
-use Rattle.std.proofs.Common.{◌≡◌, refl, arith}
+use Rattle.pg_pgn.proofs.Common.{◌≡◌, refl, arith}
 use Rattle.pg_pgn.proofs.problems.as_name.Goals as goal
 
 pub returns-else-is_name : goal.returns-else-is_name

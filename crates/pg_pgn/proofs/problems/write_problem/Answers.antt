@@ -1,10 +1,4 @@
-use Rattle.std.proofs.Common.{ap, rules, ◌∙◌}
-use Rattle.pg_certificate.specs.Pushing.{AddsSome}
-use Rattle.pg_fen.specs.PlacementText.{placement_text}
-use Rattle.pg_texts.proofs.OutcomeLemmas.{on_ok}
-use Rattle.pg_texts.specs.Movetext.{IsMovetext}
-use Rattle.pg_texts.specs.Report.{AddsLine}
-use Rattle.pg_pgn.specs.Problems.{IsProblem}
+use Rattle.pg_pgn.proofs.Common.{ap, rules, ◌∙◌, AddsSome, placement_text, on_ok, IsMovetext, AddsLine, IsProblem}
 use Rattle.pg_pgn.proofs.ProblemLemmas.{problem_line}
 use Rattle.pg_pgn.proofs.problems.write_problem.Goals as goal
 

@@ -1,6 +1,4 @@
-use Rattle.std.proofs.Common.{◌<◌, length, refl, sym, ◌∙◌, arith}
-use Rattle.pg_texts.proofs.ItemLemmas.{no_texts, one_text_more}
-use Rattle.pg_pgn.specs.Problems.{IsProblem}
+use Rattle.pg_pgn.proofs.Common.{◌<◌, length, refl, sym, ◌∙◌, arith, no_texts, one_text_more, IsProblem}
 use Rattle.pg_pgn.proofs.problems.write_problems.Goals as goal
 
 pub loop-i-init : goal.loop-i-init

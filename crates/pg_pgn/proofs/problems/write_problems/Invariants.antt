@@ -1,6 +1,4 @@
-use Rattle.std.proofs.Common.{◌≡◌, take}
-use Rattle.pg_certificate.specs.Pushing.{AddsSome}
-use Rattle.pg_pgn.specs.Problems.{AreProblems}
+use Rattle.pg_pgn.proofs.Common.{◌≡◌, take, AddsSome, AreProblems}
 use Rattle.pg_pgn.proofs.problems.write_problems.Given as goal
 
 -- the lines of the games so far were appended

@@ -1,5 +1,4 @@
-use Rattle.std.specs.Prelude.{map}
-use Rattle.pg_pgn.specs.Steps.{at}
+use Rattle.pg_pgn.proofs.Common.{map, at}
 use Rattle.pg_pgn.proofs.LegalLemmas.{games_legal}
 use Rattle.pg_pgn.proofs.reading.games_of.Goals as goal
 

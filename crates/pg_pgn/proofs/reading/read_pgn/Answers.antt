@@ -1,8 +1,4 @@
-use Rattle.std.proofs.Common.{◌≡◌, ◌<◌, ◌≤◌, ◌+◌, length, arith}
-use Rattle.std.proofs.lemmas.Bool.Decides.{nat_tests}
-use Rattle.std.proofs.lemmas.List.{nil_from_length}
-use Rattle.pg_pgn.specs.Pgn.{said, sign_of}
-use Rattle.pg_pgn.specs.Steps.{at}
+use Rattle.pg_pgn.proofs.Common.{◌≡◌, ◌<◌, ◌≤◌, ◌+◌, length, arith, nat_tests, nil_from_length, said, sign_of, at}
 use Rattle.pg_pgn.proofs.FaultLemmas.{open_fault, token_fault, end_fault, no_memory}
 use Rattle.pg_pgn.proofs.LegalLemmas.{read_legal}
 use Rattle.pg_pgn.proofs.ReadingLemmas.{read_first, deep_first, read_more, goes_deep, file_on}

@@ -1,7 +1,4 @@
-use Rattle.std.proofs.Common.{◌+◌, ◌≤◌, length}
-use Rattle.pg_pgn.specs.Pgn.{IsRead}
-use Rattle.pg_pgn.specs.Tokens.{without_mark}
-use Rattle.pg_pgn.specs.Steps.{at}
+use Rattle.pg_pgn.proofs.Common.{◌+◌, ◌≤◌, length, IsRead, without_mark, at}
 use Rattle.pg_pgn.proofs.reading.read_pgn.Given as goal
 
 -- the tokens so far lead the reader here

@@ -1,8 +1,6 @@
-use Rattle.std.proofs.Common.{◌≡◌, sym, ◌∙◌}
+use Rattle.pg_pgn.proofs.Common.{◌≡◌, sym, ◌∙◌, said, sign_of, at}
 use Rattle.pg_pgn.specs.declared.tokens.TokenKind.TheVariants as TokenKind
 use Rattle.pg_pgn.specs.declared.signs.Sign.TheVariants as Sign
-use Rattle.pg_pgn.specs.Pgn.{said, sign_of}
-use Rattle.pg_pgn.specs.Steps.{at}
 use Rattle.pg_pgn.proofs.ReadingLemmas.{sign_is, goes_as, cause_as}
 use Rattle.pg_pgn.proofs.reading.step.Goals as goal
 

@@ -1,6 +1,4 @@
-use Rattle.std.proofs.Common.{List, ℕ, Ok, Err, refl, subst}
-use Rattle.pg_san.specs.Matching.{IsReading}
-use Rattle.pg_pgn.specs.Steps.{at}
+use Rattle.pg_pgn.proofs.Common.{List, ℕ, Ok, Err, refl, subst, IsReading, at}
 use Rattle.pg_pgn.proofs.LegalLemmas.{move_kept}
 use Rattle.pg_pgn.proofs.reading.step_move.Goals as goal
 

@@ -1,7 +1,5 @@
-use Rattle.std.proofs.Common.{sym, ap, ◌∙◌}
+use Rattle.pg_pgn.proofs.Common.{sym, ap, ◌∙◌, word_sign, at}
 use Rattle.pg_pgn.specs.declared.signs.Sign.TheVariants as Sign
-use Rattle.pg_pgn.specs.Pgn.{word_sign}
-use Rattle.pg_pgn.specs.Steps.{at}
 use Rattle.pg_pgn.proofs.ReadingLemmas.{goes_as}
 use Rattle.pg_pgn.proofs.reading.step_said.Goals as goal
 

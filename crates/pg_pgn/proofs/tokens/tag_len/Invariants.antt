@@ -1,6 +1,5 @@
-use Rattle.std.proofs.Common.{◌≡◌, ◌≢◌, ◌+◌, ◌≤◌, length}
+use Rattle.pg_pgn.proofs.Common.{◌≡◌, ◌≢◌, ◌+◌, ◌≤◌, length, tag_from}
 use Rattle.pg_pgn.specs.declared.tokens.TagPart.TheVariants as TagPart
-use Rattle.pg_pgn.specs.Tokens.{tag_from}
 use Rattle.pg_pgn.proofs.tokens.tag_len.Given as goal
 
 -- the rest leads where the whole does

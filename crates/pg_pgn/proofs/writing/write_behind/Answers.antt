@@ -1,5 +1,4 @@
-use Rattle.std.proofs.Common.{sym, ◌∙◌}
-use Rattle.std.proofs.lemmas.List.{nil_from_length}
+use Rattle.pg_pgn.proofs.Common.{sym, ◌∙◌, nil_from_length}
 use Rattle.pg_pgn.proofs.WritingLemmas.{game_alone, game_behind, some_games}
 use Rattle.pg_pgn.proofs.writing.write_behind.Goals as goal
 

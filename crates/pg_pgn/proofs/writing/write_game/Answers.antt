@@ -1,9 +1,5 @@
-use Rattle.std.proofs.Common.{subst, rules}
-use Rattle.std.specs.Prelude.{codes}
-use Rattle.std.specs.Io.KnownBytes.{Appends}
-use Rattle.pg_certificate.specs.Pushing.{AddsSome}
-use Rattle.pg_pgn.specs.Writing.{IsGameText}
-use Rattle.pg_pgn.proofs.WritingLemmas.{on_ok, game_text}
+use Rattle.pg_pgn.proofs.Common.{subst, rules, codes, Appends, AddsSome, IsGameText, on_ok}
+use Rattle.pg_pgn.proofs.WritingLemmas.{game_text}
 use Rattle.pg_pgn.proofs.writing.write_game.Goals as goal
 
 pub returns : goal.returns

@@ -1,6 +1,4 @@
-use Rattle.std.proofs.Common.{refl, sym, ◌∙◌, subst, arith}
-use Rattle.pg_position.specs.declared.state.State.{State}
-use Rattle.pg_pgn.specs.Writing.{AddsMoves}
+use Rattle.pg_pgn.proofs.Common.{refl, sym, ◌∙◌, subst, arith, State, AddsMoves}
 use Rattle.pg_pgn.proofs.WritingLemmas.{no_moves, one_more, legal_next, all_moves}
 use Rattle.pg_pgn.proofs.writing.write_moves.Goals as goal
 

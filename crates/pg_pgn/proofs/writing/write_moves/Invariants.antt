@@ -1,5 +1,4 @@
-use Rattle.std.proofs.Common.{◌≡◌, ◌≤◌}
-use Rattle.pg_pgn.specs.Writing.{AddsMoves}
+use Rattle.pg_pgn.proofs.Common.{◌≡◌, ◌≤◌, AddsMoves}
 use Rattle.pg_pgn.proofs.writing.write_moves.Given as goal
 
 -- the moves so far lead to the position, and were appended

@@ -1,9 +1,4 @@
-use Rattle.std.proofs.Common.{◌≡◌, ◌<◌, ◌+◌, ◌++◌, ◌∷◌, [], List, length, take, refl, sym, ◌∙◌, subst, arith}
-use Rattle.std.proofs.lemmas.List.{length-take-le, take_all}
-use Rattle.pg_position.specs.declared.moves.Move.{Move}
-use Rattle.pg_certificate.specs.Pushing.{AddsSome}
-use Rattle.pg_texts.proofs.ReportLemmas.{listed_game}
-use Rattle.pg_pgn.specs.Writing.{IsPgnText}
+use Rattle.pg_pgn.proofs.Common.{◌≡◌, ◌<◌, ◌+◌, ◌++◌, ◌∷◌, [], List, length, take, refl, sym, ◌∙◌, subst, arith, length-take-le, take_all, Move, AddsSome, listed_game, IsPgnText}
 use Rattle.pg_pgn.proofs.WritingLemmas.{no_games, one_more_game}
 use Rattle.pg_pgn.proofs.writing.write_pgn.Goals as goal
 

@@ -1,6 +1,4 @@
-use Rattle.std.proofs.Common.{◌≡◌, take}
-use Rattle.pg_certificate.specs.Pushing.{AddsSome}
-use Rattle.pg_pgn.specs.Writing.{IsPgnText}
+use Rattle.pg_pgn.proofs.Common.{◌≡◌, take, AddsSome, IsPgnText}
 use Rattle.pg_pgn.proofs.writing.write_pgn.Given as goal
 
 -- the games so far were appended

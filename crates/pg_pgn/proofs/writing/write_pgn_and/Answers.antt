@@ -1,5 +1,4 @@
-use Rattle.std.proofs.Common.{◌≡◌, sym, ◌∙◌, false}
-use Rattle.pg_pgn.proofs.WritingLemmas.{on_ok}
+use Rattle.pg_pgn.proofs.Common.{◌≡◌, sym, ◌∙◌, false, on_ok}
 use Rattle.pg_pgn.proofs.writing.write_pgn_and.Goals as goal
 
 pub returns : goal.returns

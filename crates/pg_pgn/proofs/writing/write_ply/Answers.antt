@@ -1,4 +1,4 @@
-use Rattle.std.proofs.Common.{◌∙◌}
+use Rattle.pg_pgn.proofs.Common.{◌∙◌}
 use Rattle.pg_pgn.proofs.WritingLemmas.{ply_written}
 use Rattle.pg_pgn.proofs.writing.write_ply.Goals as goal
 
