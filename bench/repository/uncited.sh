@@ -1,7 +1,8 @@
 #!/usr/bin/env bash
 # Lemmas that nothing cites: definitions of crates/*/proofs that no answer, no invariant, no clause's tactic and no other lemma that
 # is itself cited names. A name counts where its file, or a file that imports it from there, has it as a word outside of its own
-# definition. Quiet where there is none; else a line each, and status 1.
+# definition. So it is of the names that a crate's proofs/Common.antt has for its files: one that no file takes is told. Quiet where there
+# is none; else a line each, and status 1.
 cd "$(dirname "$(readlink -f "$0")")/../.." || exit 1
 exec python3 - <<'PY'
 import glob
@@ -10,7 +11,7 @@ import sys
 
 WORD = re.compile(r"[^\s(){}\[\];,.:`|]+")
 HEAD = re.compile(r"(?:(?:abbrev|unfoldable|opaque|pub)\s+)*(?:(?:record|data)\s+)?([^\s:({]+)\s*(?::\s|[({].*:\s*Type)")
-LINES = re.compile(r"^(?:pub )?use (Rattle(?:\.\w+)+)\.\{(.*)\}$|^(?:pub )?use .*$|^--.*$", re.M)
+LINES = re.compile(r"^(?:(?:unfoldable )?pub )?use (?:(Rattle(?:\.\w+)+)\.\{(.*)\}|.*)$|^--.*$", re.M)
 
 
 def words(text):
@@ -31,7 +32,7 @@ def definitions(text):
     return found
 
 
-lemmas, cited, work = {}, set(), []
+lemmas, cited, work, taken = {}, set(), [], set()
 for path in glob.glob("crates/*/proofs/**/*.antt", recursive=True) + glob.glob("crates/*/specs/**/*.antt", recursive=True):
     with open(path, encoding="utf-8") as file:
         text = file.read()
@@ -40,6 +41,7 @@ for path in glob.glob("crates/*/proofs/**/*.antt", recursive=True) + glob.glob("
         for name in names.split(","):
             first, _, other = name.strip().partition(" as ")
             imports[(other or first).strip()] = (module, first.strip())
+    taken.update(imports.values())
     module = "Rattle." + path[len("crates/"):-len(".antt")].replace("/", ".")
     if re.search(r"/(Answers|Invariants|Proof|Lib)\.antt$", path) or "/specs/" in path:
         work.append((module, imports, words(LINES.sub("", text))))
@@ -62,6 +64,8 @@ while work:
                 work.append((place[0], others, {place[1]}))
 wrong = [f"{path}: nothing cites {name}" for module, (path, _, defined) in lemmas.items() if "/proofs/" in path
          for name in defined if (module, name) not in cited]
+wrong += [f"{path}: nothing takes {name}" for module, (path, imports, _) in lemmas.items() if module.endswith(".proofs.Common")
+          for name in imports if (module, name) not in taken]
 print("\n".join(sorted(wrong)), end="\n" if wrong else "")
 sys.exit(bool(wrong))
 PY

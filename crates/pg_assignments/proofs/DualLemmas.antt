@@ -1,10 +1,5 @@
 -- Weak duality: prices that fit have a value that is at most each total.
-use Rattle.std.proofs.Common.{◌≡◌, ◌≢◌, ℕ, zero, suc, ◌+◌, ◌*◌, ◌<◌, ◌≤◌, inl, inr, cond, eqb, Some, None, refl, arith}
-use Rattle.std.proofs.lemmas.Bool.Decides.{eqb_tells}
-use Rattle.pg_board.specs.Tally.{total}
-use Rattle.pg_assignments.specs.Assignments.{IsTotal, IsLeast, Below}
-use Rattle.pg_assignments.specs.Dual.{Fits}
-use Rattle.pg_board.specs.lemmas.Sums.{total_same, total_changed, total-le}
+use Rattle.pg_assignments.proofs.Common.{◌≡◌, ◌≢◌, ℕ, zero, suc, ◌+◌, ◌*◌, ◌<◌, ◌≤◌, inl, inr, cond, eqb, Some, None, refl, arith, eqb_tells, total, IsTotal, IsLeast, Below, Fits, total_same, total_changed, total-le}
 use Rattle.pg_assignments.proofs.SumLemmas.{total-sum}
 use Rattle.pg_assignments.proofs.LeastLemmas.{least_none, least_some}
 use Rattle.pg_assignments.proofs.SearchLemmas.{total_low}

@@ -1,10 +1,5 @@
 -- Handing columns on: a bound below and an assignment that attains it.
-use Rattle.std.proofs.Common.{◌≡◌, ◌≢◌, ℕ, zero, suc, ◌+◌, ◌*◌, ◌<◌, ◌≤◌, inl, inr, cond, eqb, Some, None, refl, sym, ap, subst, arith, ◌∙◌}
-use Rattle.std.proofs.lemmas.Bool.Decides.{eqb_tells}
-use Rattle.pg_board.specs.Tally.{total}
-use Rattle.pg_assignments.specs.Assignments.{IsAssignment, sum_of, IsLeast, Below}
-use Rattle.pg_assignments.specs.Handing.{IsShown, AreLengths}
-use Rattle.pg_board.specs.lemmas.Sums.{total_same, total_changed, total-le}
+use Rattle.pg_assignments.proofs.Common.{◌≡◌, ◌≢◌, ℕ, zero, suc, ◌+◌, ◌*◌, ◌<◌, ◌≤◌, inl, inr, cond, eqb, Some, None, refl, sym, ap, subst, arith, ◌∙◌, eqb_tells, total, IsAssignment, sum_of, IsLeast, Below, IsShown, AreLengths, total_same, total_changed, total-le}
 use Rattle.pg_assignments.proofs.SumLemmas.{total-sum}
 use Rattle.pg_assignments.proofs.LeastLemmas.{least_none, least_some}
 use Rattle.pg_assignments.proofs.SearchLemmas.{total_low}

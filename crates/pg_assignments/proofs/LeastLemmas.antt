@@ -1,8 +1,5 @@
 -- Least numbers of which something holds.
-use Rattle.std.proofs.Common.{◌≡◌, ℕ, ◌+◌, ◌<◌, ◌≤◌, ◌⊎◌, inl, inr, Option, Some, None, min, sym, subst, arith}
-use Rattle.std.proofs.lemmas.Bool.Decides.{leb_tells}
-use Rattle.pg_assignments.specs.Assignments.{IsLeast}
-use Rattle.pg_assignments.specs.Search.{lesser_of}
+use Rattle.pg_assignments.proofs.Common.{◌≡◌, ℕ, ◌+◌, ◌<◌, ◌≤◌, ◌⊎◌, inl, inr, Option, Some, None, min, sym, subst, arith, leb_tells, IsLeast, lesser_of}
 
 pub least_none : (T : ℕ → Type 0) → ((x : ℕ) → T x → ⊥) → IsLeast T None
 unfolding IsLeast

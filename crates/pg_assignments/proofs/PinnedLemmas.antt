@@ -1,11 +1,6 @@
 -- Assignments by costs where a row has no other column than one. Leads to the contracts of with.
-use Rattle.std.proofs.Common.{◌≡◌, ℕ, ◌<◌, ◌≤◌, inl, inr, Option, List, [], length, get_or, replicate, set, sym, ap, subst, arith, ◌∙◌}
-use Rattle.std.proofs.lemmas.Bool.Decides.{eqb_tells}
-use Rattle.std.proofs.lemmas.List.{get_or-replicate, get_or-set_same, get_or-set_other}
-use Rattle.pg_assignments.specs.declared.costs.Costs.{Costs}
-use Rattle.pg_assignments.specs.Assignments.{cost, IsAssignment, sum_of, IsTotal, IsTotalWith, IsLeast, IsLeastTotal, IsLeastWith, Below}
+use Rattle.pg_assignments.proofs.Common.{◌≡◌, ℕ, ◌<◌, ◌≤◌, inl, inr, Option, List, [], length, get_or, replicate, set, sym, ap, subst, arith, ◌∙◌, eqb_tells, get_or-replicate, get_or-set_same, get_or-set_other, Costs, cost, IsAssignment, sum_of, IsTotal, IsTotalWith, IsLeast, IsLeastTotal, IsLeastWith, Below, total_same}
 use Rattle.pg_assignments.specs.Pinned.{IsPinned}
-use Rattle.pg_board.specs.lemmas.Sums.{total_same}
 use Rattle.pg_assignments.proofs.LeastLemmas.{least_as}
 
 -- what is pinned agrees with the costs along an assignment that has i at j

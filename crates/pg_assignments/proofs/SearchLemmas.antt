@@ -1,11 +1,5 @@
 -- The plain search. Leads to the contracts of exact.
-use Rattle.std.proofs.Common.{◌≡◌, ◌≢◌, ℕ, suc, ◌+◌, ◌*◌, ◌<◌, ◌≤◌, ◌⊎◌, inl, inr, Bool, true, false, cond, eqb, Option, Some, None, List, length, get_or, set, refl, sym, ap, subst, arith, ◌∙◌}
-use Rattle.std.proofs.lemmas.Bool.Decides.{eqb_tells, leb_tells}
-use Rattle.std.proofs.lemmas.List.{get_or-set_same, get_or-set_other, get_or_past}
-use Rattle.pg_board.specs.Tally.{total}
-use Rattle.pg_assignments.specs.Assignments.{IsAssignment, sum_of, IsTotal, IsLeast}
-use Rattle.pg_assignments.specs.Search.{IsFree, IsVia, lesser_of}
-use Rattle.pg_board.specs.lemmas.Sums.{total-none, total-suc, total_same}
+use Rattle.pg_assignments.proofs.Common.{◌≡◌, ◌≢◌, ℕ, suc, ◌+◌, ◌*◌, ◌<◌, ◌≤◌, ◌⊎◌, inl, inr, Bool, true, false, cond, eqb, Option, Some, None, List, length, get_or, set, refl, sym, ap, subst, arith, ◌∙◌, eqb_tells, leb_tells, get_or-set_same, get_or-set_other, get_or_past, total, IsAssignment, sum_of, IsTotal, IsLeast, IsFree, IsVia, lesser_of, total-none, total-suc, total_same}
 use Rattle.pg_assignments.proofs.SumLemmas.{total-low}
 use Rattle.pg_assignments.proofs.LeastLemmas.{least_none, least_some, none_holds, least_as, least_plus, least_either}
 

@@ -1,11 +1,5 @@
 -- Slacks, and that prices fit. Leads to the contracts of slacks.
-use Rattle.std.proofs.Common.{◌≡◌, ◌≢◌, ℕ, ◌+◌, ◌<◌, inl, inr, List, [], length, get_or, set, sym, subst, arith}
-use Rattle.std.proofs.lemmas.Bool.Decides.{eqb_tells}
-use Rattle.std.proofs.lemmas.List.{get_or-set_same, get_or-set_other}
-use Rattle.pg_assignments.specs.declared.costs.Costs.{Costs}
-use Rattle.pg_assignments.specs.Assignments.{cost, nth, at2}
-use Rattle.pg_assignments.specs.Dual.{Fits}
-use Rattle.pg_assignments.specs.Handing.{IsSlackOf, IsSlackRow, IsSlackIf, IsOverRow, AreNone}
+use Rattle.pg_assignments.proofs.Common.{◌≡◌, ◌≢◌, ℕ, ◌+◌, ◌<◌, inl, inr, List, [], length, get_or, set, sym, subst, arith, eqb_tells, get_or-set_same, get_or-set_other, Costs, cost, nth, at2, Fits, IsSlackOf, IsSlackRow, IsSlackIf, IsOverRow, AreNone}
 use Rattle.pg_assignments.proofs.TestLemmas.{fits_next}
 
 pub slacks_next : (k : Costs) (us vs slack : List ℕ) (slacks : List (List ℕ)) (i m : ℕ) → m ≡ i + 1 → i < length slacks → IsSlackRow (get_or k.rows i []) (get_or us i 0) vs slack 16 → IsSlackIf (cost k) (nth us) (nth vs) slacks i → IsSlackIf (cost k) (nth us) (nth vs) (set slacks i slack) m

@@ -1,7 +1,5 @@
 -- Further laws of sums.
-use Rattle.std.proofs.Common.{◌≡◌, ℕ, zero, suc, ◌+◌, ◌*◌, ◌<◌, ◌≤◌, refl, ap, arith, ◌∙◌}
-use Rattle.pg_board.specs.Tally.{total}
-use Rattle.pg_board.specs.lemmas.Sums.{total-suc}
+use Rattle.pg_assignments.proofs.Common.{◌≡◌, ℕ, zero, suc, ◌+◌, ◌*◌, ◌<◌, ◌≤◌, refl, ap, arith, ◌∙◌, total, total-suc}
 
 pub total-low : (g : ℕ → ℕ) (n : ℕ) → ((t : ℕ) → t < n → g t ≤ 254) → total g n ≤ 254 * n
 unfolding total

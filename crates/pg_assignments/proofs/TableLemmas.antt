@@ -1,10 +1,5 @@
 -- What least totals say of sums, for those who ask for them.
-use Rattle.std.proofs.Common.{◌≡◌, ℕ, ◌+◌, ◌-◌, ◌*◌, ◌<◌, ◌≤◌, List, Some, None, sym, arith}
-use Rattle.pg_board.specs.Tally.{total}
-use Rattle.pg_board.specs.lemmas.Sums.{total_same}
-use Rattle.pg_assignments.specs.declared.costs.Costs.{Costs}
-use Rattle.pg_assignments.specs.Assignments.{cost, Below, IsTotal, IsLeastTotal, nth}
-use Rattle.pg_assignments.specs.Dual.{Fits, AreBelow}
+use Rattle.pg_assignments.proofs.Common.{◌≡◌, ℕ, ◌+◌, ◌-◌, ◌*◌, ◌<◌, ◌≤◌, List, Some, None, sym, arith, total, total_same, Costs, cost, Below, IsTotal, IsLeastTotal, nth, Fits, AreBelow}
 use Rattle.pg_assignments.specs.Totals.{IsBeyond}
 use Rattle.pg_assignments.proofs.SumLemmas.{total-sum, total-spare}
 use Rattle.pg_assignments.proofs.DualLemmas.{weak_duality}

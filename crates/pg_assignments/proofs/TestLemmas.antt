@@ -1,10 +1,5 @@
 -- The test of a proposal. Leads to the contracts of tested.
-use Rattle.std.proofs.Common.{◌≡◌, ◌≢◌, ℕ, zero, suc, ◌+◌, ◌<◌, ◌≤◌, ◌⊎◌, inl, inr, List, [], get_or, sym, ap, subst, arith, ◌∙◌}
-use Rattle.std.proofs.lemmas.Bool.Decides.{eqb_tells}
-use Rattle.pg_assignments.specs.declared.costs.Costs.{Costs}
-use Rattle.pg_assignments.specs.Assignments.{cost, Below, IsAssignment, nth}
-use Rattle.pg_assignments.specs.Dual.{Fits, RowFits, AreAtMost, AreBelow}
-use Rattle.pg_assignments.specs.Handing.{AreHeld, IsOwned}
+use Rattle.pg_assignments.proofs.Common.{◌≡◌, ◌≢◌, ℕ, zero, suc, ◌+◌, ◌<◌, ◌≤◌, ◌⊎◌, inl, inr, List, [], get_or, sym, ap, subst, arith, ◌∙◌, eqb_tells, Costs, cost, Below, IsAssignment, nth, Fits, RowFits, AreAtMost, AreBelow, AreHeld, IsOwned}
 use Rattle.pg_assignments.proofs.DualLemmas.{onto}
 
 pub fits_next : (k : Costs) (us vs : List ℕ) (i m : ℕ) → m ≡ i + 1 → Fits (cost k) (nth us) (nth vs) i 16 → RowFits (get_or k.rows i []) (get_or us i 0) vs 16 → Fits (cost k) (nth us) (nth vs) m 16

@@ -1,12 +1,5 @@
 -- What the tests of ways show. Leads to the contracts of with_all.
-use Rattle.std.proofs.Common.{◌≡◌, ◌≢◌, ℕ, ◌+◌, ◌*◌, ◌<◌, ◌≤◌, ◌⊎◌, inl, inr, true, false, leb, Option, Some, None, List, [], length, get_or, replicate, set, refl, sym, ap, subst, arith, ◌∙◌}
-use Rattle.std.proofs.lemmas.Bool.Decides.{eqb_tells, leb_tells}
-use Rattle.std.proofs.lemmas.List.{get_or-replicate, get_or-set_same, get_or-set_other}
-use Rattle.pg_board.specs.Tally.{total}
-use Rattle.pg_assignments.specs.declared.costs.Costs.{Costs}
-use Rattle.pg_assignments.specs.Assignments.{cost, IsTotal, IsLeastTotal, IsLeastWith, IsTotalWith, Below, nth, at2, told, RowLeast, AreLeastWith}
-use Rattle.pg_assignments.specs.Handing.{IsShown, AreLengths, IsSlack, IsTold, IsProved}
-use Rattle.pg_assignments.specs.Ways.{AreWays, AreSixteenths}
+use Rattle.pg_assignments.proofs.Common.{◌≡◌, ◌≢◌, ℕ, ◌+◌, ◌*◌, ◌<◌, ◌≤◌, ◌⊎◌, inl, inr, true, false, leb, Option, Some, None, List, [], length, get_or, replicate, set, refl, sym, ap, subst, arith, ◌∙◌, eqb_tells, leb_tells, get_or-replicate, get_or-set_same, get_or-set_other, total, Costs, cost, IsTotal, IsLeastTotal, IsLeastWith, IsTotalWith, Below, nth, at2, told, RowLeast, AreLeastWith, IsShown, AreLengths, IsSlack, IsTold, IsProved, AreWays, AreSixteenths}
 use Rattle.pg_assignments.proofs.HandingLemmas.{shown_some, shown_none}
 use Rattle.pg_assignments.proofs.DualLemmas.{reached}
 use Rattle.pg_assignments.proofs.LeastLemmas.{least_none, some_holds, none_holds}

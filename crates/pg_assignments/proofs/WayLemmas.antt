@@ -1,8 +1,5 @@
 -- Ways by one more column, after Floyd and Warshall. Leads to the contracts of ways.
-use Rattle.std.proofs.Common.{◌≡◌, ◌≢◌, ℕ, ◌+◌, ◌*◌, ◌<◌, ◌≤◌, ◌⊎◌, inl, inr, List, [], length, get_or, sym, ap, subst, arith}
-use Rattle.std.proofs.lemmas.Bool.Decides.{eqb_tells}
-use Rattle.pg_assignments.specs.Assignments.{nth, at2}
-use Rattle.pg_assignments.specs.Ways.{AreFirstKeys, IsNearer, IsNearerRow, AreNearer, AreWays}
+use Rattle.pg_assignments.proofs.Common.{◌≡◌, ◌≢◌, ℕ, ◌+◌, ◌*◌, ◌<◌, ◌≤◌, ◌⊎◌, inl, inr, List, [], length, get_or, sym, ap, subst, arith, eqb_tells, nth, at2, AreFirstKeys, IsNearer, IsNearerRow, AreNearer, AreWays}
 
 -- ---- ways of one step
 -- the first n rows

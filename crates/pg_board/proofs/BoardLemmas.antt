@@ -1,18 +1,9 @@
 -- What the contracts of a board say, from its eight sets.
-use Rattle.std.proofs.Common.{◌≡◌, ℕ, ◌<◌, ◌≢◌, ◌^◌, cond, eqb, Option, true, false, Some, None, sym, ap, ◌∙◌, refl, subst, arith, lt_of_le_of_lt, ltb, ltb-true, ltb-false, bit_or, count_ones, w64, ◌↔◌}
-use Rattle.std.specs.Int.{trailing_zeros}
-use Rattle.std.proofs.lemmas.Nat.{and_le_l}
+use Rattle.pg_board.proofs.Common.{◌≡◌, ℕ, ◌<◌, ◌≢◌, ◌^◌, cond, eqb, Option, true, false, Some, None, sym, ap, ◌∙◌, refl, subst, arith, lt_of_le_of_lt, ltb, ltb-true, ltb-false, bit_or, count_ones, w64, ◌↔◌, trailing_zeros, and_le_l, White, Black, Man, is_man, is_of, is_held, Placement, placement_of, get, get-placement_of, empty, empty_is, write, write_is, get_off, same_placement, IsFirst, has, has-none, has-first, ones-count, man_in, IsSound, Replaces, Shows, shown, man_in-replaced, unlike, unlike_out, unlike_in, set_of, set_of_color, has-set_of, has_color, has-held, sets_of, sets_of-placement_of, Sets}
 use Rattle.pg_board.specs.declared.man.Color.{Color}
-use Rattle.pg_board.specs.declared.man.Color.TheVariants.{White, Black}
-use Rattle.pg_board.specs.declared.man.Man.{Man}
 use Rattle.pg_board.specs.Tally.{count_below, count_of, tally, tally_below}
 use Rattle.pg_board.specs.lemmas.Sums.{count_below_same}
-use Rattle.pg_board.specs.Men.{is_man, is_of, is_held}
 use Rattle.pg_board.specs.lemmas.Equalities.{is_man_decides}
-use Rattle.pg_board.specs.Placement.{Placement, placement_of, get, get-placement_of, empty, empty_is, write, write_is, get_off, same_placement, IsFirst}
-use Rattle.pg_board.specs.Bits.{has, has-none, has-first, ones-count}
-use Rattle.pg_board.specs.inner.Sets.{man_in, IsSound, Replaces, Shows, shown, man_in-replaced, unlike, unlike_out, unlike_in, set_of, set_of_color, has-set_of, has_color, has-held, sets_of, sets_of-placement_of}
-use Rattle.pg_board.specs.declared.sets.Sets.{Sets}
 
 -- ---- a placement that is made of a function f
 get_from : (f : ℕ → Option Man) (b : Placement) (q : ℕ) → placement_of f ≡ b → q < 64 → get b q ≡ f q

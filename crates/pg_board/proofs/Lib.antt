@@ -1,3 +1,4 @@
+mod Common
 pub mod BoardLemmas
 pub mod SetLemmas
 mod MovedSets

@@ -1,16 +1,7 @@
 -- The eight sets after a man went from one square to another.
-use Rattle.std.proofs.Common.{◌≡◌, ℕ, zero, suc, ◌-◌, ◌/◌, ◌*◌, ◌%◌, ◌^◌, ◌<◌, Bool, true, false, cond, ◌&&◌, ◌||◌, eqb, eqb-true, eq-eqb, Option, None, refl, sym, ap, ◌∙◌, arith, bit_and, bit_or, lt_of_le_of_lt}
-use Rattle.std.proofs.lemmas.Nat.{and_le_l, or_lt}
-use Rattle.std.proofs.lemmas.Nat.Bits.{shr_and_one}
-use Rattle.pg_board.specs.declared.man.Color.TheVariants.{White, Black}
+use Rattle.pg_board.proofs.Common.{◌≡◌, ℕ, zero, suc, ◌-◌, ◌/◌, ◌*◌, ◌%◌, ◌^◌, ◌<◌, Bool, true, false, cond, ◌&&◌, ◌||◌, eqb, eqb-true, eq-eqb, Option, None, refl, sym, ap, ◌∙◌, arith, bit_and, bit_or, lt_of_le_of_lt, and_le_l, or_lt, shr_and_one, White, Black, Man, Sets, is_kind, is_of, has, has-none, has-and, has-or, has-set, Placement, placement_of, get, get-placement_of, same_placement, write, without, man_in, Shows, AreWords, IsSound, shown, shows_itself}
 use Rattle.pg_board.specs.declared.man.Kind.TheVariants.{Pawn, Knight, Bishop, Rook, Queen, King}
-use Rattle.pg_board.specs.declared.man.Man.{Man}
-use Rattle.pg_board.specs.declared.sets.Sets.{Sets}
-use Rattle.pg_board.specs.Men.{is_kind, is_of}
-use Rattle.pg_board.specs.Bits.{has, has-none, has-and, has-or, has-set}
-use Rattle.pg_board.specs.Placement.{Placement, placement_of, get, get-placement_of, same_placement, write, without}
 use Rattle.pg_board.specs.lemmas.Placements.{get-write}
-use Rattle.pg_board.specs.inner.Sets.{man_in, Shows, AreWords, IsSound, shown, shows_itself}
 use Rattle.pg_board.proofs.SetLemmas.{has-all}
 use Rattle.pg_board.proofs.BoardLemmas.{get_sets}
 

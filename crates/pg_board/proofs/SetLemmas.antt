@@ -1,13 +1,8 @@
 -- Sets of squares: when two meet, their first and last members, their unions and differences. Leads to the contracts of a `SquareSet`.
-use Rattle.std.proofs.Common.{◌⊎◌, inl, inr, zero, suc, ◌+◌, ◌/◌, bit_or, cond, ◌||◌, ◌≡◌, ◌≢◌, ℕ, ◌-◌, ◌*◌, ◌%◌, ◌^◌, ◌<◌, ◌≤◌, Bool, true, false, eqb, refl, sym, ap, ◌∙◌, subst, arith, bit_and, w64, not, ltb, ltb-true, ltb-false, lt_of_le_of_lt, ◌&&◌}
-use Rattle.std.proofs.lemmas.Nat.{and_le_l, le_or_r, or_lt, leading_top}
+use Rattle.pg_board.proofs.Common.{◌⊎◌, inl, inr, zero, suc, ◌+◌, ◌/◌, bit_or, cond, ◌||◌, ◌≡◌, ◌≢◌, ℕ, ◌-◌, ◌*◌, ◌%◌, ◌^◌, ◌<◌, ◌≤◌, Bool, true, false, eqb, refl, sym, ap, ◌∙◌, subst, arith, bit_and, w64, not, ltb, ltb-true, ltb-false, lt_of_le_of_lt, ◌&&◌, and_le_l, le_or_r, or_lt, leading_top, ones_shl, bit_at_mask_inside, bit_at_mask_below, bit_at_not, bit_at_ones, bit_at-suc, bit_at_lowest, Decides-eqb, Decides-at, Decides-or, Decides-and, Decides-not, Decides-like, trailing_zeros, leading_zeros, bit_not, has, bit_has, xor_out, has-first, has-last, has-none, has-and, has-or, has-set, same_sets}
 use Rattle.std.proofs.lemmas.Bool.{cases_lt}
 use Rattle.std.specs.Int.Bits.{bit_xor}
-use Rattle.std.proofs.lemmas.Nat.Bits.{ones_shl, bit_at_mask_inside, bit_at_mask_below, bit_at_not, bit_at_ones, bit_at-suc, bit_at_lowest}
-use Rattle.std.proofs.lemmas.Bool.Decides.{Decides-eqb, Decides-at, Decides-or, Decides-and, Decides-not, Decides-like}
 use Rattle.std.specs.Bool.{Decides}
-use Rattle.std.specs.Int.{trailing_zeros, leading_zeros, bit_not}
-use Rattle.pg_board.specs.Bits.{has, bit_has, xor_out, has-first, has-last, has-none, has-and, has-or, has-set, same_sets}
 use Rattle.pg_board.specs.SquareSets.{IsSetOf, Meet, HasNoneFrom, IsFirstFrom, IsLastIn}
 
 pub and_true : (x y : Bool) → x && y ≡ true → (x ≡ true) × (y ≡ true)

@@ -1,7 +1,6 @@
 -- The first element with a code, in a loop. Leads to the contract of first_excludes.
-use Rattle.std.proofs.Common.{add-one, suc, Bool, ◌≡◌, ℕ, ◌+◌, ◌<◌, Some, List, ◌∷◌, length, get_or, drop, drop-cons, cond, eqb, sym, ap, ◌∙◌, eq-eqb, true}
+use Rattle.pg_captures.proofs.Common.{add-one, suc, Bool, ◌≡◌, ℕ, ◌+◌, ◌<◌, Some, List, ◌∷◌, length, get_or, drop, drop-cons, cond, eqb, sym, ap, ◌∙◌, eq-eqb, true, first_of}
 use Rattle.std.specs.Option.{option_map}
-use Rattle.pg_captures.specs.Lists.{first_of}
 
 here : {X : Type 0} (f : X → ℕ) (c : ℕ) (x : X) (xs ys : List X) → ys ≡ x ∷ xs → f x ≡ c → first_of f c ys ≡ Some x
 here f c x xs ys e h = let t : eqb (f x) c ≡ true = eq-eqb (f x) c h in ap (first_of f c) e ∙ ap (λ b. cond b (Some x) (first_of f c xs)) t

@@ -1,3 +1,4 @@
+mod Common
 pub mod TallyLemmas
 pub mod FirstLemmas
 pub mod SumLemmas

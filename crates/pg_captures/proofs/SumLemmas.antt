@@ -1,6 +1,5 @@
 -- Sums of lists of numbers. Leads to the contract of the sum of prices.
-use Rattle.std.proofs.Common.{◌≡◌, ℕ, ◌+◌, ◌<◌, ◌≤◌, List, length, get_or, take, refl, ap}
-use Rattle.std.specs.Prelude.{sum}
+use Rattle.pg_captures.proofs.Common.{◌≡◌, ℕ, ◌+◌, ◌<◌, ◌≤◌, List, length, get_or, take, refl, ap, sum}
 use Rattle.std.proofs.lemmas.List.{take_all}
 use Rattle.std.proofs.lemmas.List.Sums.{sum_by_more}
 

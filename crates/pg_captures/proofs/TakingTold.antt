@@ -1,22 +1,14 @@
 -- What tests of the position before a legal move tell of the position after it.
-use Rattle.std.proofs.Common.{◌≡◌, ℕ, ◌+◌, ◌<◌, ◌⊎◌, ◌↔◌, inl, inr, Some, Bool, true, false, IsTrue, refl, sym, ap, subst, ◌∙◌}
+use Rattle.pg_captures.proofs.Common.{◌≡◌, ℕ, ◌+◌, ◌<◌, ◌⊎◌, ◌↔◌, inl, inr, Some, Bool, true, false, IsTrue, refl, sym, ap, subst, ◌∙◌, Color, Kind, has, man, other, is_of, Placement, get, men, any_man, plies_left, victims, CapturesFor, CapturesHolds, own_left}
 use Rattle.std.specs.Bool.{Decides}
-use Rattle.pg_board.specs.declared.man.Color.{Color}
 use Rattle.pg_board.specs.declared.man.Color.TheVariants.{White, Black}
-use Rattle.pg_board.specs.declared.man.Kind.{Kind}
-use Rattle.pg_board.specs.Bits.{has}
-use Rattle.pg_board.specs.Men.{man, other, is_of}
-use Rattle.pg_board.specs.Placement.{Placement, get}
 use Rattle.pg_board.specs.lemmas.Equalities.{of_decides}
 use Rattle.pg_position.specs.declared.state.State.{State}
 use Rattle.pg_position.specs.declared.moves.Move.{Move}
 use Rattle.pg_position.specs.Position.{IsPosition}
 use Rattle.pg_position.specs.Step.{IsEnemy, Legal}
-use Rattle.pg_captures.specs.Counting.{men, any_man}
-use Rattle.pg_captures.specs.Owed.{plies_left, victims, CapturesFor, CapturesHolds}
 use Rattle.pg_captures.specs.lemmas.OwedLemmas.{mismatched, from_mismatched}
 use Rattle.pg_captures.specs.lemmas.MoveLemmas.{side_step}
-use Rattle.pg_captures.specs.lemmas.TakingLemmas.{own_left}
 
 -- ---- what stands on a square
 pub enemy_told : (b there : Placement) (c side theirs : Color) (n s : ℕ) (r : Bool) → there ≡ b → side ≡ c → theirs ≡ other side → ((q : ℕ) → q < 64 → has n q ≡ is_of theirs (get there q)) → r ≡ has n s → s < 64 → IsTrue r ↔ IsEnemy b c s

@@ -1,18 +1,8 @@
 -- Counts by sets of squares. Leads to the contracts of the counting functions.
-use Rattle.std.proofs.Common.{◌≡◌, ℕ, ◌<◌, Bool, true, false, ◌&&◌, Option, Some, None, refl, sym, ap, ap₂, ◌∙◌}
-use Rattle.pg_board.specs.declared.man.Color.{Color}
-use Rattle.pg_board.specs.declared.man.Kind.{Kind}
-use Rattle.pg_board.specs.declared.man.Kind.TheVariants.{Pawn, Knight, Bishop, Rook, Queen, King}
+use Rattle.pg_captures.proofs.Common.{◌≡◌, ℕ, ◌<◌, Bool, true, false, ◌&&◌, Option, Some, None, refl, sym, ap, ap₂, ◌∙◌, Color, Kind, Pawn, Knight, Bishop, Rook, Queen, King, is_light, is_dark, man, passes, color_eq, kind_eq, man_eq, is_man, is_of, one, tally, tally_below, count_of, count_below, has, Placement, get, Queens, Rooks, Knights, LightBishops, DarkBishops, of_color, men, any_man, any_pawn, in_class}
 use Rattle.pg_board.specs.declared.man.Man.{Man}
-use Rattle.pg_board.specs.Squares.{is_light, is_dark}
-use Rattle.pg_board.specs.Men.{man, passes, color_eq, kind_eq, man_eq, is_man, is_of}
-use Rattle.pg_board.specs.Tally.{one, tally, tally_below, count_of, count_below}
 use Rattle.pg_board.specs.lemmas.Sums.{total_same, count_below_same}
-use Rattle.pg_board.specs.Bits.{has}
-use Rattle.pg_board.specs.Placement.{Placement, get}
 use Rattle.pg_captures.specs.declared.classes.Class.{Class}
-use Rattle.pg_captures.specs.declared.classes.Class.TheVariants.{Queens, Rooks, Knights, LightBishops, DarkBishops}
-use Rattle.pg_captures.specs.Counting.{of_color, men, any_man, any_pawn, in_class}
 use Rattle.pg_captures.specs.lemmas.PlaceLemmas.{passes_like, and-true, pawn_like}
 
 -- two tests that agree count alike

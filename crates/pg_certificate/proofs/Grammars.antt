@@ -1,10 +1,5 @@
 -- Readings and what they read: a reading meets a grammar where it takes just the texts of its values, is Truncated just where a text is cut short, and names the first byte with which no text goes on.
-use Rattle.std.proofs.Common.{◌≡◌, ◌≢◌, ℕ, ◌+◌, ◌<◌, ◌⊎◌, inl, inr, List, [], ◌∷◌, ◌++◌, length, Result, Ok, Err, refl, sym, ap, subst, ◌∙◌, arith}
-use Rattle.std.proofs.lemmas.List.{append-nil, append_assoc, get_or-append-add}
-use Rattle.pg_certificate.specs.declared.fault.ReadFault.{ReadFault}
-use Rattle.pg_certificate.specs.declared.fault.ReadFault.TheVariants.{Truncated, UnknownRecord}
-use Rattle.pg_certificate.specs.Spelling.{AreBytes}
-use Rattle.pg_certificate.specs.Reading.{◌>>=◌}
+use Rattle.pg_certificate.proofs.Common.{◌≡◌, ◌≢◌, ℕ, ◌+◌, ◌<◌, ◌⊎◌, inl, inr, List, [], ◌∷◌, ◌++◌, length, Result, Ok, Err, refl, sym, ap, subst, ◌∙◌, arith, append-nil, append_assoc, get_or-append-add, ReadFault, Truncated, UnknownRecord, AreBytes, ◌>>=◌}
 
 -- the bytes begin with a text
 pub record Taken {A : Type 0} (S : A → List ℕ → Type 0) (bytes : List ℕ) : Type 0 where

@@ -1,7 +1,5 @@
 -- Texts one after the other are some text.
-use Rattle.std.proofs.Common.{ℕ, List, [], ◌++◌, Option}
-use Rattle.std.proofs.KnownBytes.{Appends-nil, Appends-trans}
-use Rattle.std.specs.Io.KnownBytes.{Appends}
+use Rattle.pg_certificate.proofs.Common.{ℕ, List, [], ◌++◌, Option, Appends-nil, Appends-trans, Appends}
 use Rattle.pg_certificate.specs.Pushing.{Grows}
 
 pub grows_none : (a : Option (List ℕ)) → Grows a a

@@ -1,14 +1,5 @@
 -- What reading a header and its spelling have to do with one another.
-use Rattle.std.proofs.Common.{◌≡◌, ◌≢◌, ℕ, ◌<◌, ◌≤◌, ◌⊎◌, inl, inr, true, false, ltb, List, ◌++◌, length, take, drop, Result, Ok, Err, refl, sym, ap, ◌∙◌, arith}
-use Rattle.std.proofs.lemmas.Bool.{cases_lt, lt-ltb, le-ltb}
-use Rattle.std.proofs.lemmas.List.{length-append, length-take, take-append-drop}
-use Rattle.std.specs.Prelude.{Option}
-use Rattle.pg_certificate.specs.declared.fault.ReadFault.{ReadFault}
-use Rattle.pg_certificate.specs.declared.fault.ReadFault.TheVariants.{Truncated, Magic}
-use Rattle.pg_certificate.specs.declared.record.Header.{Header}
-use Rattle.pg_certificate.specs.Spelling.{header_spelling, IsHeader}
-use Rattle.pg_certificate.specs.Reading.{◌>>=◌, header_of, header_or_magic, header_at}
-use Rattle.pg_certificate.specs.Laws.{RefusesWhatIsNoHeader}
+use Rattle.pg_certificate.proofs.Common.{◌≡◌, ◌≢◌, ℕ, ◌<◌, ◌≤◌, ◌⊎◌, inl, inr, true, false, ltb, List, ◌++◌, length, take, drop, Result, Ok, Err, refl, sym, ap, ◌∙◌, arith, cases_lt, lt-ltb, le-ltb, length-append, length-take, take-append-drop, Option, ReadFault, Truncated, Magic, Header, header_spelling, IsHeader, ◌>>=◌, header_of, header_or_magic, header_at, RefusesWhatIsNoHeader}
 use Rattle.pg_certificate.proofs.HeaderLemmas.{option_tells, header_is, header_again}
 use Rattle.pg_certificate.proofs.Pieces.{all_of}
 

@@ -1,3 +1,4 @@
+mod Common
 pub mod Known
 pub mod Numbers
 pub mod Grammars

@@ -1,14 +1,6 @@
 -- Price lists and their bytes.
-use Rattle.std.proofs.Common.{◌≡◌, ℕ, zero, suc, ◌+◌, ◌*◌, ◌-◌, ◌≤◌, List, [], ◌∷◌, ◌++◌, length, take, drop, drop-drop, refl, sym, ap, subst, ◌∙◌, arith}
-use Rattle.std.proofs.Math.Nat.{suc-mul, zero-mul}
-use Rattle.std.proofs.Math.Seq.{take-add}
-use Rattle.std.proofs.lemmas.List.{append_assoc, length-append, length-take-le, length-drop, nil_from_length, take_at, drop_at, take-append-drop}
+use Rattle.pg_certificate.proofs.Common.{◌≡◌, ℕ, zero, suc, ◌+◌, ◌*◌, ◌-◌, ◌≤◌, List, [], ◌∷◌, ◌++◌, length, take, drop, drop-drop, refl, sym, ap, subst, ◌∙◌, arith, suc-mul, zero-mul, take-add, append_assoc, length-append, length-take-le, length-drop, nil_from_length, take_at, drop_at, take-append-drop, All, PriceList, list_of, AreBytes, IsPriceList, lists_spelling, lists_of}
 use Rattle.std.proofs.lemmas.List.Elements.{All-cons, All-head, All-tail}
-use Rattle.std.specs.Prelude.{All}
-use Rattle.pg_price_lists.specs.PriceLists.{PriceList, list_of}
-use Rattle.pg_certificate.specs.Spelling.{AreBytes, IsPriceList}
-use Rattle.pg_certificate.specs.inner.Outlines.{lists_spelling}
-use Rattle.pg_certificate.specs.Reading.{lists_of}
 use Rattle.pg_certificate.proofs.Grammars.{bytes_after}
 use Rattle.pg_certificate.proofs.Pieces.{bytes_both, bytes_before}
 

@@ -1,10 +1,5 @@
 -- The pieces of a spelling: a byte, a byte of a range, n bytes.
-use Rattle.std.proofs.Common.{◌≡◌, ◌≢◌, ℕ, zero, suc, ◌-◌, ◌<◌, ◌≤◌, inl, inr, true, false, ltb, List, [], ◌∷◌, ◌++◌, length, take, drop, replicate, Ok, Err, refl, sym, ap, subst, ◌∙◌, arith}
-use Rattle.std.proofs.lemmas.Bool.{cases_lt, lt-ltb, le-ltb}
-use Rattle.std.proofs.lemmas.List.{length-append, length-take-le, length-replicate, take_at, drop_at, take-append-drop}
-use Rattle.pg_certificate.specs.declared.fault.ReadFault.TheVariants.{Truncated, UnknownRecord}
-use Rattle.pg_certificate.specs.Spelling.{AreBytes}
-use Rattle.pg_certificate.specs.Reading.{byte_at, byte_from, exactly}
+use Rattle.pg_certificate.proofs.Common.{◌≡◌, ◌≢◌, ℕ, zero, suc, ◌-◌, ◌<◌, ◌≤◌, inl, inr, true, false, ltb, List, [], ◌∷◌, ◌++◌, length, take, drop, replicate, Ok, Err, refl, sym, ap, subst, ◌∙◌, arith, cases_lt, lt-ltb, le-ltb, length-append, length-take-le, length-replicate, take_at, drop_at, take-append-drop, Truncated, UnknownRecord, AreBytes, byte_at, byte_from, exactly}
 use Rattle.pg_certificate.proofs.Grammars.{Short, Unknown, Meets, Grammar}
 
 -- ---- lists of bytes

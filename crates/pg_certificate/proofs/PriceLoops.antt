@@ -1,10 +1,5 @@
 -- Price lists made of their bytes, one after the other.
-use Rattle.std.proofs.Common.{◌≡◌, ℕ, suc, ◌+◌, ◌*◌, ◌<◌, ◌≤◌, ◌↔◌, Bool, true, false, cond, IsTrue, List, [], ◌∷◌, ◌++◌, length, take, drop, refl, sym, ap, ◌∙◌, arith}
-use Rattle.std.proofs.Math.Nat.{suc-mul}
-use Rattle.std.proofs.lemmas.List.{append-nil, length-append, length-take, length-take-le, length-drop}
-use Rattle.pg_price_lists.specs.PriceLists.{PriceList, list_of}
-use Rattle.pg_price_lists.specs.PriceRecords.{sources, targets, CanAdd}
-use Rattle.pg_certificate.specs.Reading.{lists_of}
+use Rattle.pg_certificate.proofs.Common.{◌≡◌, ℕ, suc, ◌+◌, ◌*◌, ◌<◌, ◌≤◌, ◌↔◌, Bool, true, false, cond, IsTrue, List, [], ◌∷◌, ◌++◌, length, take, drop, refl, sym, ap, ◌∙◌, arith, suc-mul, append-nil, length-append, length-take, length-take-le, length-drop, PriceList, list_of, sources, targets, CanAdd, lists_of}
 use Rattle.pg_certificate.proofs.ListTexts.{next_list}
 
 -- lists for a sources and b targets, of which v more are to be made from the bytes behind `at`

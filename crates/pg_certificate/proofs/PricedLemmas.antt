@@ -1,17 +1,5 @@
 -- Reading price lists from a source that tells its bytes.
-use Rattle.std.proofs.Common.{◌≡◌, ℕ, zero, suc, ◌+◌, ◌*◌, ◌-◌, take, drop, drop-drop, slice_range, ◌<◌, ◌≤◌, ◌^◌, inl, inr, List, [], ◌∷◌, ◌++◌, length, get_or, Some, None, refl, sym, subst, ap, ◌∙◌, arith}
-use Rattle.std.specs.Prelude.{Option, slice_index}
-use Rattle.std.proofs.KnownBytes.{Consumes-trans}
-use Rattle.std.proofs.Math.Seq.{take-add}
-use Rattle.std.proofs.lemmas.Bool.{cases_lt}
-use Rattle.std.proofs.lemmas.List.{append_assoc, length-take}
-use Rattle.std.specs.Io.KnownBytes.{Consumes, prepend_known}
-use Rattle.pg_price_lists.specs.PriceLists.{PriceList}
-use Rattle.pg_certificate.specs.declared.outline.Outline.{Outline}
-use Rattle.pg_certificate.specs.Spelling.{AreBytes, spelling}
-use Rattle.pg_certificate.specs.inner.Outlines.{IsOutline, outline_spelling, AreListsOf, lists_spelling}
-use Rattle.pg_certificate.specs.Reading.{lists_of, lists_at}
-use Rattle.pg_certificate.specs.Reader.{Leaves}
+use Rattle.pg_certificate.proofs.Common.{◌≡◌, ℕ, zero, suc, ◌+◌, ◌*◌, ◌-◌, take, drop, drop-drop, slice_range, ◌<◌, ◌≤◌, ◌^◌, inl, inr, List, [], ◌∷◌, ◌++◌, length, get_or, Some, None, refl, sym, subst, ap, ◌∙◌, arith, Option, slice_index, Consumes-trans, take-add, cases_lt, append_assoc, length-take, Consumes, prepend_known, PriceList, Outline, AreBytes, spelling, IsOutline, outline_spelling, AreListsOf, lists_spelling, lists_of, lists_at, Leaves}
 use Rattle.pg_certificate.proofs.ListTexts.{many_lists, are_lists}
 use Rattle.pg_certificate.proofs.PricedTexts.{lists_reads}
 use Rattle.pg_certificate.proofs.RecordLaws.{lists_are, priced_of, priced_spelling}

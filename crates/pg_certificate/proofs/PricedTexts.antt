@@ -1,14 +1,6 @@
 -- Reading the two parts of a priced record: what stands before its lists, and the lists.
-use Rattle.std.proofs.Common.{◌≡◌, ℕ, ◌+◌, ◌*◌, ◌<◌, ◌≤◌, inl, inr, List, [], ◌∷◌, ◌++◌, Ok, refl, sym, ap, subst, ◌∙◌, arith}
-use Rattle.std.proofs.lemmas.Bool.Decides.{eqb_tells}
-use Rattle.std.proofs.lemmas.List.{append-nil}
-use Rattle.pg_board.specs.declared.man.Color.{Color}
+use Rattle.pg_certificate.proofs.Common.{◌≡◌, ℕ, ◌+◌, ◌*◌, ◌<◌, ◌≤◌, inl, inr, List, [], ◌∷◌, ◌++◌, Ok, refl, sym, ap, subst, ◌∙◌, arith, eqb_tells, append-nil, Color, PriceList, Outline, color_byte, IsOutline, outline_spelling, AreListsOf, lists_spelling, ◌>>=◌, byte_at, byte_from, exactly, color_of, outline_at, lists_of, lists_at}
 use Rattle.pg_board.specs.declared.man.Color.TheVariants.{White, Black}
-use Rattle.pg_price_lists.specs.PriceLists.{PriceList}
-use Rattle.pg_certificate.specs.declared.outline.Outline.{Outline}
-use Rattle.pg_certificate.specs.Spelling.{color_byte}
-use Rattle.pg_certificate.specs.inner.Outlines.{IsOutline, outline_spelling, AreListsOf, lists_spelling}
-use Rattle.pg_certificate.specs.Reading.{◌>>=◌, byte_at, byte_from, exactly, color_of, outline_at, lists_of, lists_at}
 use Rattle.pg_certificate.proofs.Grammars.{Read, Grammar, Then, then_reads, Only, only_reads, as_reads}
 use Rattle.pg_certificate.proofs.Pieces.{Byte, byte_reads, Between, from_reads, Exactly, exactly_reads}
 use Rattle.pg_certificate.proofs.ListTexts.{many_lists, are_lists, spelled_lists, lists_again, length_lists, list_bytes}

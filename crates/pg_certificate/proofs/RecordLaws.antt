@@ -1,21 +1,8 @@
 -- What reading a record and its spelling have to do with one another, by cases on the first byte.
-use Rattle.std.proofs.Common.{◌≡◌, ◌≢◌, ℕ, zero, suc, ◌+◌, ◌*◌, ◌^◌, ◌<◌, ◌≤◌, inl, inr, Bool, true, false, eqb, ◌&&◌, List, [], ◌∷◌, ◌++◌, length, Ok, Err, refl, sym, ap, subst, ◌∙◌, arith}
-use Rattle.std.specs.Int.{w32, from_be_bytes, to_be_bytes}
-use Rattle.std.proofs.lemmas.Bool.Decides.{eqb_tells}
-use Rattle.std.proofs.lemmas.List.{append-nil}
-use Rattle.std.proofs.lemmas.Nat.{be_bytes_4, from_be_bytes-to_be_bytes_4}
-use Rattle.std.proofs.Math.Nat.{mul-le-mul_right}
-use Rattle.pg_board.specs.declared.man.Color.{Color}
-use Rattle.pg_price_lists.specs.PriceLists.{PriceList}
-use Rattle.pg_price_lists.specs.PriceRecords.{sources, targets}
-use Rattle.pg_certificate.specs.declared.fault.ReadFault.TheVariants.{Truncated, UnknownRecord}
-use Rattle.pg_certificate.specs.declared.outline.Outline.{Outline}
+use Rattle.pg_certificate.proofs.Common.{◌≡◌, ◌≢◌, ℕ, zero, suc, ◌+◌, ◌*◌, ◌^◌, ◌<◌, ◌≤◌, inl, inr, Bool, true, false, eqb, ◌&&◌, List, [], ◌∷◌, ◌++◌, length, Ok, Err, refl, sym, ap, subst, ◌∙◌, arith, w32, from_be_bytes, to_be_bytes, eqb_tells, append-nil, be_bytes_4, from_be_bytes-to_be_bytes_4, mul-le-mul_right, Color, PriceList, sources, targets, Truncated, UnknownRecord, Outline, AreBytes, color_byte, spelling, longest_record, ArePrices, IsRecord, IsRecordOf, IsOutline, AreListsOf, lists_spelling, ◌>>=◌, exactly, number_at, outline_at, lists_at, priced_at, record_at, IsCutShort, IsUnknownAt}
 use Rattle.pg_certificate.specs.declared.record.Record.{Record}
 use Rattle.pg_certificate.specs.declared.record.Record.TheVariants.{Expand, Cut, Ref, Priced}
-use Rattle.pg_certificate.specs.Spelling.{AreBytes, color_byte, spelling, longest_record, ArePrices, IsRecord, IsRecordOf}
-use Rattle.pg_certificate.specs.inner.Outlines.{IsOutline, AreListsOf, lists_spelling}
-use Rattle.pg_certificate.specs.Reading.{◌>>=◌, byte_at as one_at, exactly, number_at, outline_at, lists_at, priced_at, record_at}
-use Rattle.pg_certificate.specs.Laws.{IsCutShort, IsUnknownAt}
+use Rattle.pg_certificate.specs.Reading.{byte_at as one_at}
 use Rattle.pg_certificate.proofs.Grammars.{Read, Short, Unknown, Meets, Grammar, Then, then_reads, Only, only_reads, as_reads, same_front, reads_taken, reads_short, short_reads, reads_unknown, unknown_reads}
 use Rattle.pg_certificate.proofs.Pieces.{Byte, byte_reads, Exactly, exactly_reads}
 use Rattle.pg_certificate.proofs.ListTexts.{length_lists}

@@ -1,13 +1,6 @@
 -- Price lists written one after the other.
-use Rattle.std.proofs.Common.{◌≡◌, ℕ, zero, suc, ◌+◌, ◌<◌, List, [], ◌∷◌, ◌++◌, length, take, sym, ap, subst, ◌∙◌, arith}
-use Rattle.std.proofs.lemmas.List.{append-nil, append_assoc}
-use Rattle.std.proofs.KnownBytes.{Appends-trans}
-use Rattle.std.specs.Prelude.{Option}
+use Rattle.pg_certificate.proofs.Common.{◌≡◌, ℕ, zero, suc, ◌+◌, ◌<◌, List, [], ◌∷◌, ◌++◌, length, take, sym, ap, subst, ◌∙◌, arith, append-nil, append_assoc, Appends-trans, Option, Appends, PriceList, sources, targets, u_at, v_at, list_spelling}
 use Rattle.std.specs.List.{flat_map}
-use Rattle.std.specs.Io.KnownBytes.{Appends}
-use Rattle.pg_price_lists.specs.PriceLists.{PriceList}
-use Rattle.pg_price_lists.specs.PriceRecords.{sources, targets, u_at, v_at}
-use Rattle.pg_certificate.specs.Spelling.{list_spelling}
 
 -- the numbers before the lists, and the first of the lists
 abbrev pub begun : List PriceList → ℕ → List ℕ

@@ -1,29 +1,11 @@
 -- What is answered of games that were found. Leads to the contract of `answer`.
-use Rattle.std.proofs.Common.{◌≡◌, ℕ, inl, inr, Bool, true, List, [], Option, Some, None, Result, Ok, Err, IfOk, IfErr, IfSome, sym, subst}
-use Rattle.pg_board.specs.Placement.{Placement}
-use Rattle.pg_position.specs.declared.moves.Move.{Move}
-use Rattle.pg_moves.proofs.SortLemmas.{Contains-none}
-use Rattle.pg_san.specs.Games.{IsGames}
-use Rattle.pg_san.proofs.OrderLemmas.{games_once}
+use Rattle.pg_checker.proofs.Common.{◌≡◌, ℕ, inl, inr, Bool, true, List, [], Option, Some, None, Result, Ok, Err, IfOk, IfErr, IfSome, sym, subst, Placement, Move, Contains-none, IsGames, games_once, AreSolutions, AnswerAccepts, AnswerRefuses, AnswerTells, FitsLongLists, HasTooMany, IsProvedBy, Certifies, Terms, lists, lists_decides, Proved, Finds, TooMany, fault_of, AreFinds, Finding, IsFound, IsLossFault, IsLost, Stop, StopTells}
 use Rattle.pg_checker.specs.Tree as tree
-use Rattle.pg_checker.specs.Answer.{AreSolutions}
-use Rattle.pg_checker.specs.Answering.{AnswerAccepts, AnswerRefuses, AnswerTells, FitsLongLists, HasTooMany, IsProvedBy}
-use Rattle.pg_checker.specs.Check.{Certifies}
-use Rattle.pg_checker.specs.Terms.{Terms}
-use Rattle.pg_checker.specs.Equality.{lists}
-use Rattle.pg_checker.specs.lemmas.Equalities.{lists_decides}
 use Rattle.pg_checker.specs.declared.certify.Answer.{Answer}
-use Rattle.pg_checker.specs.declared.certify.Proved.{Proved}
 use Rattle.pg_checker.specs.declared.fault.AnswerFault.{AnswerFault}
 use Rattle.pg_checker.specs.declared.fault.AnswerFault.TheVariants as answer_fault
 use Rattle.pg_checker.specs.declared.fault.Fault.TheVariants as fault
-use Rattle.pg_checker.specs.declared.finds.Finds.{Finds}
-use Rattle.pg_checker.specs.declared.finds.Loss.TheVariants.{TooMany}
-use Rattle.pg_checker.specs.inner.Checking.{fault_of}
-use Rattle.pg_checker.specs.inner.Finds.{AreFinds, Finding, IsFound, IsLossFault, IsLost}
-use Rattle.pg_checker.specs.inner.Halting.{Stop}
 use Rattle.pg_checker.specs.inner.Halting as stop
-use Rattle.pg_checker.specs.inner.Telling.{StopTells}
 
 -- a list that holds all that was found says yes of it
 pub found_serves : (finds : Finds) → finds.loss ≡ None → (game : List Move) → IsFound finds game → lists finds.games game ≡ true

@@ -1,25 +1,7 @@
 -- A certificate for some list of games against the rules for which every game is listed. Leads to the contract of `answer`.
-use Rattle.std.proofs.Common.{◌≡◌, ℕ, ◌<◌, ◌≤◌, Bool, true, false, List, [], ◌∷◌, ◌++◌, length, inl, inr, Option, Some, None, IfSome, Err, refl, sym, ◌∙◌, ap, subst, arith}
-use Rattle.std.specs.List.{Contains, IsDistinct, AllByRecursion}
-use Rattle.std.specs.Cmp.{IsEquivalence}
+use Rattle.pg_checker.proofs.Common.{◌≡◌, ℕ, ◌<◌, ◌≤◌, Bool, true, false, List, [], ◌∷◌, ◌++◌, length, inl, inr, Option, Some, None, IfSome, Err, refl, sym, ◌∙◌, ap, subst, arith, Contains, IsDistinct, AllByRecursion, IsEquivalence, Placement, Move, array_state, IsOnce, Contains-head, Contains-later, Contains-none, Contains-cons, header_spelling, spelling_all, IsSolution, AreSolutions, AnswerAccepts, FitsLongLists, FitsNoList, HasTooMany, Accepts, IsCertified, header_for, Cuts, IsSoundCut, any_game, chess, chess_with, is_spelled, read, stands_for, game_eq, lists, game_decides, lists_decides, terms, Proved, Fault}
 use Rattle.std.proofs.lemmas.Map.Made.{length-le_from_is_member}
-use Rattle.pg_board.specs.Placement.{Placement}
-use Rattle.pg_position.specs.declared.moves.Move.{Move}
-use Rattle.pg_position.specs.Array.{array_state}
-use Rattle.pg_position.specs.Game.{IsOnce}
-use Rattle.pg_moves.proofs.SortLemmas.{Contains-head, Contains-later, Contains-none, Contains-cons}
-use Rattle.pg_certificate.specs.Spelling.{header_spelling}
-use Rattle.pg_checker.specs.Tree.{spelling_all}
-use Rattle.pg_checker.specs.Answer.{IsSolution, AreSolutions}
-use Rattle.pg_checker.specs.Answering.{AnswerAccepts, FitsLongLists, FitsNoList, HasTooMany}
-use Rattle.pg_checker.specs.Check.{Accepts, IsCertified, header_for}
-use Rattle.pg_checker.specs.Chess.{Cuts, IsSoundCut, any_game, chess, chess_with, is_spelled, read, stands_for}
-use Rattle.pg_checker.specs.Equality.{game_eq, lists}
-use Rattle.pg_checker.specs.lemmas.Equalities.{game_decides, lists_decides}
-use Rattle.pg_checker.specs.Terms.{terms}
-use Rattle.pg_checker.specs.declared.certify.Proved.{Proved}
 use Rattle.pg_checker.specs.declared.fault.AnswerFault.TheVariants as answer_fault
-use Rattle.pg_checker.specs.declared.fault.Fault.{Fault}
 use Rattle.pg_checker.specs.declared.fault.Fault.TheVariants as fault
 use Rattle.pg_checker.proofs.Chess.{chess_exact, yes_has_all}
 use Rattle.pg_checker.proofs.Leaves.{one_test}

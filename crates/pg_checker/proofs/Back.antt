@@ -1,10 +1,8 @@
 -- Where a tree that fits is spelled, the walk reads it.
-use Rattle.std.proofs.Common.{◌≡◌, ℕ, zero, suc, ◌+◌, Bool, true, false, ◌||◌, List, [], ◌∷◌, ◌++◌, Option, Some, Result, Ok, slice_get, nat_eq, refl, sym, ◌∙◌, ap, ap₂, subst, arith, append_assoc, append-nil, eq-eqb}
-use Rattle.pg_certificate.specs.declared.record.Record.{Record}
+use Rattle.pg_checker.proofs.Common.{◌≡◌, ℕ, zero, suc, ◌+◌, Bool, true, false, ◌||◌, List, [], ◌∷◌, ◌++◌, Option, Some, Result, Ok, slice_get, nat_eq, refl, sym, ◌∙◌, ap, ap₂, subst, arith, append_assoc, append-nil, eq-eqb, Record, Tree, Trees, Leaf, Empty, First, Entry, Rules, Fits, FitAll, fertile, any_fertile, closed, closed_all, entry, spelling_all, records, records_all, named, named_all, WalkState, Done, Opened, spend_of, take_room, cut_answer, ref_answer, judge, head, leaf_answer, each, visit, Took, TookAll, IsExact}
 use Rattle.pg_certificate.specs.declared.record.Record.TheVariants.{Expand as Expanded, Cut as CutBy, Ref as RefTo, Priced as PricedBy}
-use Rattle.pg_checker.specs.Tree.{Tree, Trees, Leaf, Expand, Cut, Ref, Priced, Empty, First, Entry, Rules, Fits, FitAll, fertile, any_fertile, closed, closed_all, entry, spelling, spelling_all, records, records_all, named, named_all}
-use Rattle.pg_checker.specs.Walk.{◌>>=◌, WalkState, Done, Opened, spend_of, take_room, cut_answer, ref_answer, judge, head, leaf_answer, each, visit, Took, TookAll}
-use Rattle.pg_checker.specs.Claims.{IsExact}
+use Rattle.pg_checker.specs.Tree.{Expand, Cut, Ref, Priced, spelling}
+use Rattle.pg_checker.specs.Walk.{◌>>=◌}
 use Rattle.pg_checker.proofs.Steps.{Paid}
 
 or_assoc : (a b c : Bool) → ((a || b) || c) ≡ (a || (b || c))

@@ -1,42 +1,17 @@
 -- The header, the walk and the answer. Leads to the contracts of `read_header`, `walk` and `check`.
-use Rattle.std.proofs.Common.{◌≡◌, ◌≢◌, ℕ, suc, ◌+◌, ◌-◌, ◌≤◌, length, arith, Bool, true, false, List, [], ◌∷◌, ◌++◌, map, ◌*◌, Option, Some, None, IfSome, not, nat_eq, Result, Ok, Err, refl, sym, ◌∙◌, ap, subst}
+use Rattle.pg_checker.proofs.Common.{◌≡◌, ◌≢◌, ℕ, suc, ◌+◌, ◌-◌, ◌≤◌, length, arith, Bool, true, false, List, [], ◌∷◌, ◌++◌, map, ◌*◌, Option, Some, None, IfSome, not, nat_eq, Result, Ok, Err, refl, sym, ◌∙◌, ap, subst, Decides-eqb, slice_eq-Decides, Consumes, IsAtEnd, Keeps, longest_record, Placement, State, Move, array_state, packed_of, ReadFault, Header, header_at, more_at, PullsAtMost, ReaderState, to_come, Reads, Proved, Rules, run, answer, ended, Cuts, chess_with, stop_of, entry_of, state_at, Goes, Stops, Machine, Stop, Halt, WalkTakes, FailsRead, TakesFew, AreKnown, Answers}
 use Rattle.std.specs.Cmp.Lexicographic.{pointwise}
-use Rattle.std.proofs.lemmas.Bool.Decides.{Decides-eqb}
-use Rattle.std.proofs.lemmas.Slice.Eq.{slice_eq-Decides}
-use Rattle.std.specs.Io.KnownBytes.{Consumes, IsAtEnd, Keeps}
-use Rattle.pg_certificate.specs.Spelling.{longest_record}
-use Rattle.pg_board.specs.Placement.{Placement}
-use Rattle.pg_position.specs.declared.state.State.{State}
-use Rattle.pg_position.specs.declared.moves.Move.{Move}
-use Rattle.pg_position.specs.Array.{array_state}
-use Rattle.pg_fen.specs.Packing.{packed_of}
-use Rattle.pg_certificate.specs.declared.fault.ReadFault.{ReadFault}
 use Rattle.pg_certificate.specs.declared.fault.ReadFault.TheVariants as reading
-use Rattle.pg_certificate.specs.declared.record.Header.{Header}
-use Rattle.pg_certificate.specs.Reading.{header_at, more_at}
-use Rattle.pg_certificate.specs.Reader.{PullsAtMost, ReaderState, to_come, Reads}
-use Rattle.pg_checker.specs.declared.certify.Proved.{Proved}
 use Rattle.pg_checker.proofs.Running.{Few}
 use Rattle.pg_checker.specs.Tree as tree
-use Rattle.pg_checker.specs.Tree.{Rules}
 use Rattle.pg_checker.specs.Walk as walk
 use Rattle.pg_checker.specs.Walk.{◌>>=◌}
-use Rattle.pg_checker.specs.Whole.{run, answer, ended}
-use Rattle.pg_checker.specs.Chess.{Cuts, chess_with}
-use Rattle.pg_checker.specs.inner.Judging.{stop_of}
-use Rattle.pg_checker.specs.inner.Machine.{entry_of, state_at}
-use Rattle.pg_checker.specs.inner.Steps.{Answer, Goes, Stops}
-use Rattle.pg_checker.specs.declared.machine.Machine.{Machine}
-use Rattle.pg_checker.specs.inner.Halting.{Stop}
+use Rattle.pg_checker.specs.inner.Steps.{Answer}
 use Rattle.pg_checker.specs.inner.Halting as stop
-use Rattle.pg_checker.specs.declared.halt.Halt.{Halt}
 use Rattle.pg_checker.specs.declared.halt.Halt.TheVariants as halt
-use Rattle.pg_checker.specs.inner.Checking.{WalkTakes}
 use Rattle.pg_checker.specs.inner.Halting.{full}
-use Rattle.pg_checker.specs.inner.Steps.{FailsRead, TakesFew}
 use Rattle.pg_checker.proofs.Goings.{stops_as, stops_with}
 use Rattle.pg_checker.proofs.Planting.{runs_all}
-use Rattle.pg_checker.specs.inner.Checking.{AreKnown, Answers}
 
 -- ---- the header
 -- with nothing held, what is to come is what is left

@@ -1,34 +1,11 @@
 -- The walk over chess: its games are those of chess, and a yes proves the exact answer.
-use Rattle.std.proofs.Common.{◌≡◌, ◌≢◌, ◌↔◌, ℕ, zero, suc, ◌<◌, ◌≤◌, Bool, true, false, cond, eqb, List, [], ◌∷◌, length, Ok, Err, refl, sym, ◌∙◌, ap, subst, inl, inr, ◌⊎◌, arith}
-use Rattle.std.specs.List.{Contains}
-use Rattle.std.specs.Bool.{Decides}
-use Rattle.std.proofs.lemmas.Bool.Decides.{Decides-eqb, eqb_tells}
-use Rattle.pg_board.specs.Placement.{Placement}
-use Rattle.pg_board.specs.Equality.{placement_eq_decides}
-use Rattle.pg_position.specs.declared.state.State.{State}
-use Rattle.pg_position.specs.declared.moves.Move.{Move}
-use Rattle.pg_position.specs.Position.{IsPosition}
-use Rattle.pg_position.specs.Step.{Legal, IsLegal}
-use Rattle.pg_position.specs.Game.{IsGame, Barren}
-use Rattle.pg_position.specs.Array.{array_state}
+use Rattle.pg_checker.proofs.Common.{◌≡◌, ◌≢◌, ◌↔◌, ℕ, zero, suc, ◌<◌, ◌≤◌, Bool, true, false, cond, eqb, List, [], ◌∷◌, length, Ok, Err, refl, sym, ◌∙◌, ap, subst, inl, inr, ◌⊎◌, arith, Contains, Decides, Decides-eqb, eqb_tells, Placement, placement_eq_decides, State, Move, IsPosition, Legal, IsLegal, IsGame, array_state, array_position, SameFuture, legal_position, future_sym, same_games, same_ends, moves_of_is, few_moves, play_of_is, most_moves, Rules, Trees, EndsOnGoal, TooManyNamed, spelling_all, records_all, IsExact, IsRight, IsComplete, IsCertificate, answer, full_from, IsSolution, IsExactAnswer, AreSolutions, lists_decides, lists, Cuts, IsSoundCut, IsChess, read, stands_for, chess, chess_with}
+use Rattle.pg_position.specs.Game.{Barren}
 use Rattle.pg_position.specs.Equality.{state_eq}
 use Rattle.pg_position.specs.lemmas.Equalities.{state_eq_decides}
-use Rattle.pg_position.proofs.ArrayLemmas.{array_position}
-use Rattle.pg_position.specs.Future.{SameFuture}
-use Rattle.pg_position.proofs.FutureLemmas.{legal_position, future_sym, same_games, same_ends}
-use Rattle.pg_moves.proofs.ListLemmas.{moves_of_is, few_moves}
-use Rattle.pg_moves.proofs.PlayLemmas.{play_of_is}
-use Rattle.pg_moves.specs.inner.Places.{most_moves}
-use Rattle.pg_checker.specs.Tree.{Rules, Trees, EndsOnGoal, TooManyNamed, spelling_all, records_all}
 use Rattle.pg_checker.specs.Tree as tree
-use Rattle.pg_checker.specs.Claims.{IsExact, IsRight, IsComplete, IsCertificate}
-use Rattle.pg_checker.specs.Whole.{answer, full_from}
-use Rattle.pg_checker.specs.Answer.{IsSolution, IsExactAnswer, AreSolutions}
-use Rattle.pg_checker.specs.lemmas.Equalities.{lists_decides}
 use Rattle.pg_checker.specs.Futures.{future_eq}
 use Rattle.pg_checker.specs.lemmas.Futures.{future_decides}
-use Rattle.pg_checker.specs.Equality.{lists}
-use Rattle.pg_checker.specs.Chess.{Cuts, IsSoundCut, IsChess, read, stands_for, chess, chess_with}
 use Rattle.pg_checker.proofs.Reading.{record_spelled, spelled_record, read_ok, read_spelled, read_few}
 use Rattle.pg_checker.proofs.Full.{full_accepted}
 use Rattle.pg_checker.proofs.Whole.{sound, full_certificate}

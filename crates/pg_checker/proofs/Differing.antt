@@ -1,28 +1,12 @@
 -- A legal move changes two squares at least and four at most, so where fewer or more differ, none leads to the diagram.
-use Rattle.std.proofs.Common.{◌≡◌, ◌≢◌, ℕ, zero, suc, ◌+◌, ◌<◌, ◌≤◌, ◌⊎◌, inl, inr, Bool, true, false, Some, None, refl, sym, ◌∙◌, ap, subst, arith, ltb, ltb-true, ltb-false}
-use Rattle.std.proofs.lemmas.Bool.Decides.{eqb_tells}
-use Rattle.pg_board.specs.declared.man.Color.{Color}
-use Rattle.pg_board.specs.declared.man.Kind.{Kind}
+use Rattle.pg_checker.proofs.Common.{◌≡◌, ◌≢◌, ℕ, zero, suc, ◌+◌, ◌<◌, ◌≤◌, ◌⊎◌, inl, inr, Bool, true, false, Some, None, refl, sym, ◌∙◌, ap, subst, arith, ltb, ltb-true, ltb-false, eqb_tells, Color, Kind, Man, Placement, get, without, man, other, State, Move, StepKind, Plain, Capture, DoubleAdvance, EnPassant, Promotion, Castling, Stands, IsVacant, IsPassed, IsPosition, Step, Legal, IsEnemy, IsWay, relocated, board_after, has, Differ, TwoToFour, LeadsTo, written, unwritten, man_elsewhere, same_side}
 use Rattle.pg_board.specs.declared.man.Kind.TheVariants.{Pawn}
-use Rattle.pg_board.specs.declared.man.Man.{Man}
-use Rattle.pg_board.specs.Placement.{Placement, get, without}
-use Rattle.pg_board.specs.Men.{man, other}
-use Rattle.pg_position.specs.declared.state.State.{State}
-use Rattle.pg_position.specs.declared.moves.Move.{Move}
-use Rattle.pg_position.specs.declared.moves.StepKind.{StepKind}
-use Rattle.pg_position.specs.declared.moves.StepKind.TheVariants.{Plain, Capture, DoubleAdvance, EnPassant, Promotion, Castling}
-use Rattle.pg_position.specs.Position.{Stands, IsVacant, IsPassed, IsPosition}
-use Rattle.pg_position.specs.Step.{Step, Legal, IsEnemy, IsWay, relocated, board_after}
 use Rattle.pg_position.specs.Squares.{rook_home, ahead, king_crossed}
-use Rattle.pg_board.specs.Bits.{has}
 use Rattle.pg_board.specs.Tally.{one, count_below}
 use Rattle.pg_board.specs.lemmas.Sums.{total-none, total-suc, one-le}
 use Rattle.pg_position.proofs.StepLemmas.{not_other}
 use Rattle.pg_position.proofs.ValidLemmas.{castle_squares, CastleSquares, castle_vacant}
-use Rattle.pg_checker.specs.Differing.{Differ, TwoToFour}
 use Rattle.pg_checker.specs.inner.Squares.{HasTwoToFour}
-use Rattle.pg_checker.specs.Passing.{LeadsTo}
-use Rattle.pg_captures.specs.lemmas.BoardLemmas.{written, unwritten, man_elsewhere, same_side}
 
 -- ---- four squares at most
 -- the squares that the move may change: where it leaves, where it goes, and two more

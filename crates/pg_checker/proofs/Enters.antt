@@ -1,27 +1,17 @@
 -- Entering a node. Leads to the contracts of `enter` and `turn`.
-use Rattle.std.proofs.Common.{◌≡◌, ℕ, suc, ◌+◌, ◌-◌, ◌<◌, Bool, false, List, [], ◌∷◌, ◌++◌, reverse, map, Option, Some, None, Result, Ok, Err, refl, sym, ◌∙◌, ap, subst, arith}
-use Rattle.pg_board.specs.Placement.{Placement}
-use Rattle.pg_position.specs.declared.state.State.{State}
-use Rattle.pg_position.specs.declared.moves.Move.{Move}
+use Rattle.pg_checker.proofs.Common.{◌≡◌, ℕ, suc, ◌+◌, ◌-◌, ◌<◌, Bool, false, List, [], ◌∷◌, ◌++◌, reverse, map, Option, Some, None, Result, Ok, Err, refl, sym, ◌∙◌, ap, subst, arith, Placement, State, Move, one_if, leaf, head, enter, opens, Work, any_game, Cuts, chess_with, left_after, Point, Walks, path, entry_of, frame_of, frames_of, count_named, shape_of, state_at, work_at, Goes, Stops, Machine, Opening, Stop, cause_with}
 use Rattle.pg_checker.specs.Tree as tree
-use Rattle.pg_checker.specs.Tree.{one_if}
 use Rattle.pg_checker.specs.Walk as walk
-use Rattle.pg_checker.specs.Walk.{leaf, head, ◌>>=◌}
+use Rattle.pg_checker.specs.Walk.{◌>>=◌}
 use Rattle.pg_checker.specs.inner.Frames as frames
-use Rattle.pg_checker.specs.inner.Frames.{enter, opens, Work}
-use Rattle.pg_checker.specs.Chess.{any_game, Cuts, chess_with}
-use Rattle.pg_checker.specs.Left.{left_after}
-use Rattle.pg_checker.specs.inner.Machine.{Point, Walks, path, entry_of, frame_of, frames_of, count_named, opened as opened_by, shape_of, state_at, work_at}
-use Rattle.pg_checker.specs.inner.Steps.{Answer, Goes, Stops}
+use Rattle.pg_checker.specs.inner.Machine.{opened as opened_by}
+use Rattle.pg_checker.specs.inner.Steps.{Answer}
 use Rattle.pg_checker.specs.declared.machine.Frame.{Frame}
-use Rattle.pg_checker.specs.declared.machine.Machine.{Machine}
-use Rattle.pg_checker.specs.declared.machine.Opening.{Opening}
 use Rattle.pg_checker.specs.declared.machine.Opening.TheVariants as opening
-use Rattle.pg_checker.specs.inner.Halting.{Stop}
 use Rattle.pg_checker.specs.inner.Halting as stop
 use Rattle.pg_checker.specs.declared.halt.Halt.TheVariants as halt
 use Rattle.pg_checker.specs.declared.halt.Reason.{Reason}
-use Rattle.pg_checker.specs.inner.Halting.{full, cause_with}
+use Rattle.pg_checker.specs.inner.Halting.{full}
 use Rattle.pg_checker.proofs.Goings.{stays, goes_as, goes_then, stops_then, stops_as}
 use Rattle.pg_checker.proofs.FrameViews.{frames_more, count_more}
 use Rattle.pg_checker.proofs.Left.{rules_start}

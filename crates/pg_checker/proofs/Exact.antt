@@ -1,10 +1,7 @@
 -- The walk succeeds exactly where it reads a tree that fits.
-use Rattle.std.proofs.Common.{◌≡◌, ℕ, zero, suc, ◌+◌, Bool, true, false, ◌||◌, List, [], ◌∷◌, ◌++◌, Some, Ok, slice_get, nat_eq, refl, sym, ◌∙◌, ap, ap₂, subst, arith, append_assoc, append-nil, eqb-true}
-use Rattle.pg_certificate.specs.declared.record.Record.{Record}
+use Rattle.pg_checker.proofs.Common.{◌≡◌, ℕ, zero, suc, ◌+◌, Bool, true, false, ◌||◌, List, [], ◌∷◌, ◌++◌, Some, Ok, slice_get, nat_eq, refl, sym, ◌∙◌, ap, ap₂, subst, arith, append_assoc, append-nil, eqb-true, Record, Tree, Trees, Leaf, Empty, First, Entry, Rules, FitAll, fertile, any_fertile, closed, closed_all, entry, spelling_all, records, named, one_if, WalkState, Shape, Done, Opened, judge, head, each, close, below, visit, Took, TookAll, IsExact, ReadsTree}
 use Rattle.pg_certificate.specs.declared.record.Record.TheVariants.{Expand as Expanded, Cut as CutBy, Ref as RefTo, Priced as PricedBy}
-use Rattle.pg_checker.specs.Tree.{Tree, Trees, Leaf, Expand, Cut, Ref, Priced, Empty, First, Entry, Rules, FitAll, fertile, any_fertile, closed, closed_all, entry, spelling, spelling_all, records, named, one_if}
-use Rattle.pg_checker.specs.Walk.{WalkState, Shape, Done, Opened, judge, head, each, close, below, visit, Took, TookAll}
-use Rattle.pg_checker.specs.Claims.{IsExact, ReadsTree}
+use Rattle.pg_checker.specs.Tree.{Expand, Cut, Ref, Priced, spelling}
 use Rattle.pg_checker.proofs.Steps.{bind_ok, room_ok, cut_ok, ref_ok, leaf_ok, Paid, head_ok}
 
 or_assoc : (a b c : Bool) → (a || (b || c)) ≡ ((a || b) || c)

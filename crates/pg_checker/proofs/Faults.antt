@@ -1,10 +1,7 @@
 -- The walk fails exactly where a front with a cause stands.
-use Rattle.std.proofs.Common.{◌≡◌, ◌≢◌, ℕ, zero, suc, ◌<◌, ◌⊎◌, Bool, true, false, ◌&&◌, List, Option, Some, None, Result, Ok, Err, slice_get, nat_eq, refl, sym, ◌∙◌, ap, ap₂, subst, inl, inr, ⊎_elim, arith, eqb-true, eq-eqb}
-use Rattle.pg_certificate.specs.declared.record.Record.{Record}
+use Rattle.pg_checker.proofs.Common.{◌≡◌, ◌≢◌, ℕ, zero, suc, ◌<◌, ◌⊎◌, Bool, true, false, ◌&&◌, List, Option, Some, None, Result, Ok, Err, slice_get, nat_eq, refl, sym, ◌∙◌, ap, ap₂, subst, inl, inr, ⊎_elim, arith, eqb-true, eq-eqb, Record, Cause, Budget, UnknownBound, CutFails, RefUnknown, RefDiffers, RefFertile, TooManyNamed, Shorter, Unlisted, Entry, Rules, WalkState, spend_of, take_room, cut_answer, differs_or, ref_answer, judge, head, leaf_answer, leaf, RefusesRecord, RecordCause, no_budget, no_record, refused, LeafCause}
 use Rattle.pg_certificate.specs.declared.record.Record.TheVariants.{Expand as Expanded, Cut as CutBy, Ref as RefTo, Priced as PricedBy}
-use Rattle.pg_checker.specs.Tree.{Cause, Budget, UnknownBound, CutFails, RefUnknown, RefDiffers, RefFertile, TooManyNamed, Shorter, Unlisted, Entry, Rules}
-use Rattle.pg_checker.specs.Walk.{◌>>=◌, WalkState, spend_of, take_room, cut_answer, differs_or, ref_answer, judge, head, leaf_answer, leaf}
-use Rattle.pg_checker.specs.Front.{RefusesRecord, RecordCause, no_budget, no_record, refused, LeafCause}
+use Rattle.pg_checker.specs.Walk.{◌>>=◌}
 
 pub bind_err : {A B E : Type 0} (x : Result A E) (f : A → Result B E) (e : E) → (x >>= f) ≡ Err e → (x ≡ Err e) ⊎ ((a : A) × (x ≡ Ok a) × (f a ≡ Err e))
 bind_err (Ok a) f e h = inr (a, refl, h)

@@ -1,17 +1,9 @@
 -- Games that are found. Leads to the contracts of `keep`, `counts` and the walk.
-use Rattle.std.proofs.Common.{◌≡◌, ◌↔◌, ℕ, inl, inr, Bool, true, false, IsTrue, List, Option, Some, None, Bor, refl, sym, ◌∙◌, ap, subst}
-use Rattle.std.specs.List.{Contains}
-use Rattle.std.specs.Option.{is_some}
-use Rattle.pg_board.specs.Placement.{Placement}
-use Rattle.pg_position.specs.declared.moves.Move.{Move}
+use Rattle.pg_checker.proofs.Common.{◌≡◌, ◌↔◌, ℕ, inl, inr, Bool, true, false, IsTrue, List, Option, Some, None, Bor, refl, sym, ◌∙◌, ap, subst, Contains, is_some, Placement, Move, IsSolution, Finding, HasOver, IsFound, Serves, asked, own_test, Finds, TooMany}
 use Rattle.pg_san.specs.Adding.{IsAdded, IsAddFault}
 use Rattle.pg_san.specs.declared.adding.AddFault.{AddFault}
 use Rattle.pg_san.specs.declared.adding.AddFault.TheVariants as add
-use Rattle.pg_checker.specs.Answer.{IsSolution}
-use Rattle.pg_checker.specs.inner.Finds.{Finding, HasOver, IsFound, Serves, asked, own_test}
-use Rattle.pg_checker.specs.declared.finds.Finds.{Finds}
 use Rattle.pg_checker.specs.declared.finds.Loss.{Loss}
-use Rattle.pg_checker.specs.declared.finds.Loss.TheVariants.{TooMany}
 use Rattle.pg_checker.proofs.Leaves.{listed_is}
 
 pub finding_none : (d : Placement) (n : ℕ) (finds : Finds) → Finding d n finds finds

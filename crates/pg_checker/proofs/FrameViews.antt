@@ -1,9 +1,5 @@
 -- What one more frame stands for.
-use Rattle.std.proofs.Common.{◌≡◌, ℕ, ◌+◌, ◌<◌, ◌≤◌, List, [], ◌∷◌, ◌++◌, length, reverse, take, get_or, append-nil, Option, Some, None, refl, sym, ◌∙◌, ap, arith}
-use Rattle.std.proofs.lemmas.List.{reverse-append, take_more, length-append}
-use Rattle.pg_position.specs.declared.moves.Move.{Move}
-use Rattle.pg_checker.specs.inner.Machine.{played, path, frame_of, frames_of, count_named}
-use Rattle.pg_checker.specs.Tree.{one_if}
+use Rattle.pg_checker.proofs.Common.{◌≡◌, ℕ, ◌+◌, ◌<◌, ◌≤◌, List, [], ◌∷◌, ◌++◌, length, reverse, take, get_or, append-nil, Option, Some, None, refl, sym, ◌∙◌, ap, arith, reverse-append, take_more, length-append, Move, played, path, frame_of, frames_of, count_named, one_if}
 use Rattle.pg_checker.specs.declared.machine.Frame.{Frame}
 
 pub path_none : path (reverse {A = Frame} []) ≡ []

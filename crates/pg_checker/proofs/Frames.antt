@@ -1,14 +1,9 @@
 -- A turn of the loop leaves the answer of the rest unchanged, and less to do.
-use Rattle.std.proofs.Common.{◌≡◌, ℕ, zero, suc, ◌+◌, ◌*◌, ◌<◌, ◌≤◌, Bool, true, false, ◌||◌, List, [], ◌∷◌, ◌++◌, length, Result, Ok, Err, refl, sym, ◌∙◌, ap, subst, arith}
-use Rattle.pg_certificate.specs.declared.record.Record.{Record}
+use Rattle.pg_checker.proofs.Common.{◌≡◌, ℕ, zero, suc, ◌+◌, ◌*◌, ◌<◌, ◌≤◌, Bool, true, false, ◌||◌, List, [], ◌∷◌, ◌++◌, length, Result, Ok, Err, refl, sym, ◌∙◌, ap, subst, arith, Record, Cause, Rules, entry, WalkState, Shape, Done, Opened, visit, each, close, head, leaf, below, IsExact, judge, nat_eq, slice_get, resume, Work, finish, opens, enter, turn_at, turn, load, effort, Stacked}
 use Rattle.pg_certificate.specs.declared.record.Record.TheVariants.{Expand as Expanded, Cut as CutBy, Ref as RefTo, Priced as PricedBy}
-use Rattle.pg_checker.specs.Tree.{Cause, Rules, entry}
-use Rattle.pg_checker.specs.Walk.{◌>>=◌, WalkState, Shape, Done, Opened, visit, each, close, head, leaf, below}
-use Rattle.pg_checker.specs.Claims.{IsExact}
-use Rattle.pg_checker.specs.Walk.{judge}
+use Rattle.pg_checker.specs.Walk.{◌>>=◌}
 use Rattle.pg_checker.proofs.Steps.{bind_ok, leaf_ok, head_ok, room_ok, cut_ok, ref_ok}
-use Rattle.std.proofs.Common.{nat_eq, slice_get}
-use Rattle.pg_checker.specs.inner.Frames.{Frame, resume, Work, finish, opens, enter, turn_at, turn, load, effort, Stacked}
+use Rattle.pg_checker.specs.inner.Frames.{Frame}
 
 pub bind_assoc : {A B C E : Type 0} (x : Result A E) (f : A → Result B E) (g : B → Result C E) → ((x >>= f) >>= g) ≡ (x >>= (λ a. f a >>= g))
 bind_assoc (Ok a) f g = refl

@@ -1,10 +1,7 @@
 -- The walk fails exactly where it comes to a front with a cause.
-use Rattle.std.proofs.Common.{◌≡◌, ℕ, zero, suc, ◌+◌, Bool, true, false, ◌||◌, List, [], ◌∷◌, ◌++◌, Ok, Err, nat_eq, refl, sym, ◌∙◌, ap, subst, ⊎_elim, arith, append_assoc}
+use Rattle.pg_checker.proofs.Common.{◌≡◌, ℕ, zero, suc, ◌+◌, Bool, true, false, ◌||◌, List, [], ◌∷◌, ◌++◌, Ok, Err, nat_eq, refl, sym, ◌∙◌, ap, subst, ⊎_elim, arith, append_assoc, Trees, Empty, First, Cause, Entry, Rules, fertile, closed, spelling_all, records, records_all, named_all, WalkState, Shape, Done, Opened, take_room, head, each, below, visit, Took, IsExact, Front, Here, Below, front_records, front_named, front_spelling, NextNode, After, FitFront, CauseAt, TookFront, Halts}
 use Rattle.pg_certificate.specs.declared.record.Record.TheVariants.{Expand as Expanded}
-use Rattle.pg_checker.specs.Tree.{Trees, Empty, First, Cause, Entry, Rules, fertile, closed, spelling, spelling_all, records, records_all, named_all}
-use Rattle.pg_checker.specs.Walk.{WalkState, Shape, Done, Opened, take_room, head, each, below, visit, Took}
-use Rattle.pg_checker.specs.Claims.{IsExact}
-use Rattle.pg_checker.specs.Front.{Front, Here, Below, front_records, front_named, front_spelling, NextNode, After, FitFront, CauseAt, TookFront, Halts}
+use Rattle.pg_checker.specs.Tree.{spelling}
 use Rattle.pg_checker.proofs.Steps.{Paid, head_ok}
 use Rattle.pg_checker.proofs.Exact.{visit_ok, HeadSays, judged}
 use Rattle.pg_checker.proofs.Back.{same_state, fits_visit, head_pays}

@@ -1,8 +1,6 @@
 -- The certificate that expands every node with a ply left: it is accepted, and names no node.
-use Rattle.std.proofs.Common.{◌≡◌, ℕ, zero, suc, ◌≤◌, List, [], ◌∷◌, Ok, refl, sym, arith}
-use Rattle.pg_checker.specs.Tree.{Tree, Rules, spelling_all, records_all, named, named_all}
-use Rattle.pg_checker.specs.Claims.{IsComplete, IsExact}
-use Rattle.pg_checker.specs.Whole.{answer, full_all, full, full_from}
+use Rattle.pg_checker.proofs.Common.{◌≡◌, ℕ, zero, suc, ◌≤◌, List, [], ◌∷◌, Ok, refl, sym, arith, Tree, Rules, spelling_all, records_all, named, named_all, IsComplete, IsExact, answer, full_all, full_from}
+use Rattle.pg_checker.specs.Whole.{full}
 use Rattle.pg_checker.proofs.Whole.{accepts, full_certificate}
 
 module _ {P M : Type 0} (r : Rules P M) where

@@ -1,23 +1,5 @@
 -- A game played move by move. Leads to the contracts of `end_of`, `reaches` and `check_listed`.
-use Rattle.std.proofs.Common.{add-one, suc, ◌≡◌, ◌≢◌, ◌↔◌, ℕ, ◌+◌, ◌<◌, ◌≤◌, inl, inr, IsTrue, List, [], ◌∷◌, ◌++◌, length, take, drop, drop-cons, get_or, Some, slice_get, refl, sym, ◌∙◌, ap, subst, arith}
-use Rattle.std.proofs.lemmas.List.{take_all, take_more}
-use Rattle.std.proofs.lemmas.Option.{slice_get-get_or}
-use Rattle.std.proofs.lemmas.Bool.Decides.{eqb_tells}
-use Rattle.pg_board.specs.Placement.{Placement}
-use Rattle.pg_position.specs.declared.state.State.{State}
-use Rattle.pg_position.specs.declared.moves.Move.{Move}
-use Rattle.pg_position.specs.Array.{array_state}
-use Rattle.pg_position.specs.Position.{IsPosition}
-use Rattle.pg_position.specs.Step.{Legal, IsLegal}
-use Rattle.pg_position.specs.Game.{IsGame}
-use Rattle.pg_position.proofs.ArrayLemmas.{array_position}
-use Rattle.pg_position.proofs.FutureLemmas.{one_result, one_end}
-use Rattle.pg_san.specs.Games.{IsFromArray, IsGames}
-use Rattle.pg_checker.specs.Answer.{IsSolution, AreSolutions}
-use Rattle.pg_checker.specs.Listed.{AreFine, IsGameFault, IsListFault}
-use Rattle.pg_checker.specs.declared.fault.ListFault.{ListFault}
-use Rattle.pg_checker.specs.declared.fault.ListFault.TheVariants.{WrongLength, NotReaching}
-use Rattle.pg_san.proofs.OrderLemmas.{games_once}
+use Rattle.pg_checker.proofs.Common.{add-one, suc, ◌≡◌, ◌≢◌, ◌↔◌, ℕ, ◌+◌, ◌<◌, ◌≤◌, inl, inr, IsTrue, List, [], ◌∷◌, ◌++◌, length, take, drop, drop-cons, get_or, Some, slice_get, refl, sym, ◌∙◌, ap, subst, arith, take_all, take_more, slice_get-get_or, eqb_tells, Placement, State, Move, array_state, IsPosition, Legal, IsLegal, IsGame, array_position, one_result, one_end, IsFromArray, IsGames, IsSolution, AreSolutions, AreFine, IsGameFault, IsListFault, ListFault, WrongLength, NotReaching, games_once}
 
 pub game_more : (p : State) (ms : List Move) (m : Move) (q r : State) → IsGame p ms q → Legal q m r → IsGame p (ms ++ m ∷ []) r
 game_more p [] m q r g l = (r, subst (λ (x : State). Legal x m r) (sym g) l, refl)

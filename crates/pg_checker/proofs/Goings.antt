@@ -1,12 +1,8 @@
 -- Pieces of the walk, one after the other.
-use Rattle.std.proofs.Common.{◌≡◌, ℕ, ◌+◌, ◌<◌, List, [], ◌++◌, Option, Some, None, Result, Ok, refl, sym, ◌∙◌, ap, arith}
-use Rattle.std.proofs.lemmas.List.{append_assoc}
-use Rattle.std.specs.Io.KnownBytes.{Consumes}
-use Rattle.pg_position.specs.declared.moves.Move.{Move}
+use Rattle.pg_checker.proofs.Common.{◌≡◌, ℕ, ◌+◌, ◌<◌, List, [], ◌++◌, Option, Some, None, Result, Ok, refl, sym, ◌∙◌, ap, arith, append_assoc, Consumes, Move, Goes, Stops, Stop}
 use Rattle.pg_checker.specs.Tree as tree
 use Rattle.pg_checker.specs.Walk.{◌>>=◌}
-use Rattle.pg_checker.specs.inner.Steps.{Answer, Goes, Stops}
-use Rattle.pg_checker.specs.inner.Halting.{Stop}
+use Rattle.pg_checker.specs.inner.Steps.{Answer}
 use Rattle.pg_checker.specs.inner.Halting as stop
 
 pub consumes_none : (known : Option (List ℕ)) → Consumes known known []

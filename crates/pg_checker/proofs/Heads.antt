@@ -1,30 +1,12 @@
 -- Reading the record of a node, and judging it. Leads to the contract of `head`.
-use Rattle.std.proofs.Common.{Bool, ◌≡◌, ℕ, suc, ◌+◌, ◌*◌, ◌≤◌, List, length, Option, Some, None, IfSome, Result, Ok, Err, refl, sym, ◌∙◌, ap, subst, arith}
-use Rattle.std.proofs.lemmas.List.{length-append}
-use Rattle.std.specs.Io.KnownBytes.{Consumes, prepend_known}
-use Rattle.pg_certificate.specs.Spelling.{longest_record}
-use Rattle.pg_board.specs.Placement.{Placement}
-use Rattle.pg_captures.specs.PriceLists.{PriceList}
-use Rattle.pg_position.specs.declared.state.State.{State}
-use Rattle.pg_position.specs.declared.moves.Move.{Move}
-use Rattle.pg_certificate.specs.declared.fault.ReadFault.{ReadFault}
+use Rattle.pg_checker.proofs.Common.{Bool, ◌≡◌, ℕ, suc, ◌+◌, ◌*◌, ◌≤◌, List, length, Option, Some, None, IfSome, Result, Ok, Err, refl, sym, ◌∙◌, ap, subst, arith, length-append, Consumes, prepend_known, longest_record, Placement, PriceList, State, Move, ReadFault, Record, Bare, record_of, IsRecordOf, record_at, Reads, ReadsAs, judge, head, Cuts, chess_with, read, stop_of, Point, state_of, shape_of, Goes, Stops, Says, TakesFew, Opening, Stop, none_longer}
 use Rattle.pg_certificate.specs.declared.fault.ReadFault.TheVariants as reading
-use Rattle.pg_certificate.specs.declared.record.Record.{Record}
-use Rattle.pg_certificate.specs.declared.record.Bare.{Bare}
-use Rattle.pg_certificate.specs.Spelling.{record_of, spelling, IsRecordOf}
-use Rattle.pg_certificate.specs.Reading.{record_at}
-use Rattle.pg_certificate.specs.Reader.{Reads, ReadsAs}
+use Rattle.pg_certificate.specs.Spelling.{spelling}
 use Rattle.pg_checker.specs.Tree as tree
 use Rattle.pg_checker.specs.Walk as walk
-use Rattle.pg_checker.specs.Walk.{judge, head, ◌>>=◌}
-use Rattle.pg_checker.specs.Chess.{Cuts, chess_with, read}
-use Rattle.pg_checker.specs.inner.Judging.{stop_of}
-use Rattle.pg_checker.specs.inner.Machine.{Point, state_of, shape_of}
-use Rattle.pg_checker.specs.inner.Steps.{Answer, Goes, Stops, Says, TakesFew}
-use Rattle.pg_checker.specs.declared.machine.Opening.{Opening}
-use Rattle.pg_checker.specs.inner.Halting.{Stop}
+use Rattle.pg_checker.specs.Walk.{◌>>=◌}
+use Rattle.pg_checker.specs.inner.Steps.{Answer}
 use Rattle.pg_checker.specs.inner.Halting as stop
-use Rattle.pg_certificate.proofs.RecordLaws.{none_longer}
 use Rattle.pg_checker.proofs.Reading.{read_spelled, read_err}
 use Rattle.pg_checker.proofs.Goings.{goes_on, goes_as, goes_reading, stops_on, stops_as, stops_with}
 

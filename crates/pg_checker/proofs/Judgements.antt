@@ -1,25 +1,10 @@
 -- What judging one record says. Leads to the contract of `judge`.
-use Rattle.std.proofs.Common.{◌≡◌, ℕ, suc, ◌+◌, ◌<◌, ◌⊎◌, inl, inr, List, [], Bool, true, false, Option, Some, None, IfOk, map, slice_get, Result, Ok, Err, refl, sym, ◌∙◌, ap, subst, arith}
-use Rattle.pg_board.specs.declared.man.Color.{Color}
-use Rattle.pg_board.specs.Placement.{Placement}
-use Rattle.pg_captures.specs.PriceLists.{PriceList}
-use Rattle.pg_position.specs.declared.state.State.{State}
-use Rattle.pg_position.specs.declared.moves.Move.{Move}
-use Rattle.pg_certificate.specs.declared.record.Record.{Record}
+use Rattle.pg_checker.proofs.Common.{◌≡◌, ℕ, suc, ◌+◌, ◌<◌, ◌⊎◌, inl, inr, List, [], Bool, true, false, Option, Some, None, IfOk, map, slice_get, Result, Ok, Err, refl, sym, ◌∙◌, ap, subst, arith, Color, Placement, PriceList, State, Move, Record, judge, cut_answer, ref_answer, take_room, Cuts, chess_with, Judgement, Ends, EndsAs, Judges, ended_of, judged_at, refer_answer, entry_of, opened, Stops, Names, Opening, Stop, Halt}
 use Rattle.pg_certificate.specs.declared.record.Record.TheVariants.{Expand, Cut, Ref, Priced}
 use Rattle.pg_checker.specs.Tree as tree
 use Rattle.pg_checker.specs.Walk as walk
-use Rattle.pg_checker.specs.Walk.{judge, cut_answer, ref_answer, take_room}
-use Rattle.pg_checker.specs.Chess.{Cuts, chess_with}
-use Rattle.pg_checker.specs.inner.Judging.{Judgement, Ends, EndsAs, Judges, ended_of, judged_at, refer_answer}
-use Rattle.pg_checker.specs.inner.Machine.{entry_of, opened}
-use Rattle.pg_checker.specs.inner.Steps.{Stops}
-use Rattle.pg_checker.specs.declared.machine.Names.{Names}
-use Rattle.pg_checker.specs.declared.machine.Opening.{Opening}
 use Rattle.pg_checker.specs.declared.machine.Opening.TheVariants as opening
-use Rattle.pg_checker.specs.inner.Halting.{Stop}
 use Rattle.pg_checker.specs.inner.Halting as stop
-use Rattle.pg_checker.specs.declared.halt.Halt.{Halt}
 use Rattle.pg_checker.specs.declared.halt.Halt.TheVariants as halt
 use Rattle.pg_checker.specs.declared.halt.Reason.TheVariants as reason
 use Rattle.pg_checker.specs.inner.Halting.{full}

@@ -1,28 +1,6 @@
 -- Moves that lead to the diagram: the squares that they leave and go to, and what they become. Leads to the contract of `has_leading`.
-use Rattle.std.proofs.Common.{◌≡◌, ◌≢◌, ◌↔◌, ℕ, ◌+◌, ◌<◌, ◌≤◌, ◌&&◌, not, ◌⊎◌, inl, inr, Bool, true, false, IsTrue, Option, Some, None, refl, sym, ap, subst, ◌∙◌, arith, ltb, ltb-true, ltb-false}
-use Rattle.std.specs.Ordering.{ordering_reverse}
-use Rattle.std.specs.declared.cmp.Ordering.TheVariants.{Less, Greater}
-use Rattle.pg_board.specs.declared.man.Color.{Color}
+use Rattle.pg_checker.proofs.Common.{◌≡◌, ◌≢◌, ◌↔◌, ℕ, ◌+◌, ◌<◌, ◌≤◌, ◌&&◌, not, ◌⊎◌, inl, inr, Bool, true, false, IsTrue, Option, Some, None, refl, sym, ap, subst, ◌∙◌, arith, ltb, ltb-true, ltb-false, ordering_reverse, Less, Greater, Color, Kind, Man, has, man, is_of, is_held, Placement, get, without, State, Move, StepKind, Plain, Capture, DoubleAdvance, EnPassant, Promotion, Castling, IsPosition, HasNoneFrom, IsFirstFrom, Step, Legal, IsWay, after, written, Differ, LeadsTo, LeadsElsewhere, AllElsewhere, LeadsOn, HoldsSources, HoldsTargets, MovesLeft, IsPast, move_cmp_total}
 use Rattle.pg_board.specs.declared.man.Color.TheVariants.{White, Black}
-use Rattle.pg_board.specs.declared.man.Kind.{Kind}
-use Rattle.pg_board.specs.declared.man.Man.{Man}
-use Rattle.pg_board.specs.Bits.{has}
-use Rattle.pg_board.specs.Men.{man, is_of, is_held}
-use Rattle.pg_board.specs.Placement.{Placement, get, without}
-use Rattle.pg_position.specs.declared.state.State.{State}
-use Rattle.pg_position.specs.declared.moves.Move.{Move}
-use Rattle.pg_position.specs.declared.moves.StepKind.{StepKind}
-use Rattle.pg_position.specs.declared.moves.StepKind.TheVariants.{Plain, Capture, DoubleAdvance, EnPassant, Promotion, Castling}
-use Rattle.pg_position.specs.Position.{IsPosition}
-use Rattle.pg_board.specs.SquareSets.{HasNoneFrom, IsFirstFrom}
-use Rattle.pg_position.specs.Step.{Step, Legal, IsWay, after}
-use Rattle.pg_captures.specs.lemmas.BoardLemmas.{written}
-use Rattle.pg_checker.specs.Differing.{Differ}
-use Rattle.pg_checker.specs.Passing.{LeadsTo, LeadsElsewhere, AllElsewhere}
-use Rattle.pg_checker.specs.inner.Leading.{LeadsOn, HoldsSources, HoldsTargets}
-use Rattle.pg_moves.specs.Left.{MovesLeft}
-use Rattle.pg_moves.specs.Moves.{IsPast}
-use Rattle.pg_moves.proofs.PlaceLemmas.{move_cmp_total}
 use Rattle.pg_checker.proofs.Differing.{Changed, Moved, both_in, after_move}
 use Rattle.pg_checker.proofs.Left.{left_are}
 

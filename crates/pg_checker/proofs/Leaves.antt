@@ -1,17 +1,7 @@
 -- What a leaf says. Leads to the contract of `leaf`.
-use Rattle.std.proofs.Common.{◌≡◌, ◌≢◌, ◌↔◌, ℕ, Bool, true, false, IsTrue, List, nat_eq, Ok, Err, refl, ◌∙◌, subst, eq-eqb}
-use Rattle.std.proofs.lemmas.Bool.{ne_eqb}
-use Rattle.std.specs.List.{Contains}
-use Rattle.pg_board.specs.Placement.{Placement}
-use Rattle.pg_board.specs.Equality.{placement_eq, placement_eq_decides}
-use Rattle.pg_position.specs.declared.state.State.{State}
-use Rattle.pg_position.specs.declared.moves.Move.{Move}
+use Rattle.pg_checker.proofs.Common.{◌≡◌, ◌≢◌, ◌↔◌, ℕ, Bool, true, false, IsTrue, List, nat_eq, Ok, Err, refl, ◌∙◌, subst, eq-eqb, ne_eqb, Contains, Placement, placement_eq, placement_eq_decides, State, Move, leaf, leaf_answer, lists, lists_decides, Cuts, chess_with}
 use Rattle.pg_checker.specs.Tree as tree
 use Rattle.pg_checker.specs.Walk as walk
-use Rattle.pg_checker.specs.Walk.{leaf, leaf_answer}
-use Rattle.pg_checker.specs.Equality.{lists}
-use Rattle.pg_checker.specs.lemmas.Equalities.{lists_decides}
-use Rattle.pg_checker.specs.Chess.{Cuts, chess_with}
 
 -- two tests of one fact
 pub one_test : {A : Type 0} (a b : Bool) → IsTrue a ↔ A → IsTrue b ↔ A → a ≡ b

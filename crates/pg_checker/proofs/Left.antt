@@ -1,25 +1,9 @@
 -- What is left of the legal moves begins with the next one.
-use Rattle.std.proofs.Common.{◌≡◌, ℕ, ◌<◌, ◌≤◌, Bool, true, false, not, inl, inr, Option, Some, None, List, [], ◌∷◌, ◌++◌, refl, sym, ap, subst, ◌∙◌, arith, ltb, ltb-true, ltb-false}
+use Rattle.pg_checker.proofs.Common.{◌≡◌, ℕ, ◌<◌, ◌≤◌, Bool, true, false, not, inl, inr, Option, Some, None, List, [], ◌∷◌, ◌++◌, refl, sym, ap, subst, ◌∙◌, arith, ltb, ltb-true, ltb-false, Less, Equal, Greater, Decides, is_lt, nat_cmp, ordering_then, ordering_reverse, nat_cmp_is, Contains, AllByRecursion, filter, Contains-append_left, Contains-append_right, Contains-append_cases, Placement, State, Move, IsLegal, promotion_number, move_cmp, IsBefore, IsPast, IsNext, IsLast, move_cmp_total, Contains-head, Contains-later, Contains-cons, sorted_below, sorted_rest, sorted_same, kept_are, kept_has, moves_of, moves_of_is, Cuts, chess_with, comes_after, left_after}
 use Rattle.std.specs.declared.cmp.Ordering.{Ordering}
-use Rattle.std.specs.declared.cmp.Ordering.TheVariants.{Less, Equal, Greater}
-use Rattle.std.specs.Bool.{Decides}
-use Rattle.std.specs.Ordering.{is_lt, nat_cmp, ordering_then, ordering_reverse}
-use Rattle.std.specs.Cmp.{nat_cmp_is}
-use Rattle.std.specs.List.{Contains, AllByRecursion, filter}
 use Rattle.std.specs.List.Sorted.{IsStrictlySortedBy}
 use Rattle.std.proofs.lemmas.Cmp.{tied_itself}
-use Rattle.std.proofs.lemmas.List.Elements.{Contains-append_left, Contains-append_right, Contains-append_cases}
 use Rattle.std.proofs.lemmas.List.Kept.{IsStrictlySortedBy-filter}
-use Rattle.pg_board.specs.Placement.{Placement}
-use Rattle.pg_position.specs.declared.state.State.{State}
-use Rattle.pg_position.specs.declared.moves.Move.{Move}
-use Rattle.pg_position.specs.Step.{IsLegal}
-use Rattle.pg_moves.specs.Moves.{promotion_number, move_cmp, IsBefore, IsPast, IsNext, IsLast}
-use Rattle.pg_moves.proofs.PlaceLemmas.{move_cmp_total}
-use Rattle.pg_moves.proofs.SortLemmas.{Contains-head, Contains-later, Contains-cons, sorted_below, sorted_rest, sorted_same}
-use Rattle.pg_moves.proofs.ListLemmas.{kept_are, kept_has, moves_of, moves_of_is}
-use Rattle.pg_checker.specs.Chess.{Cuts, chess_with}
-use Rattle.pg_checker.specs.Left.{comes_after, left_after}
 
 less_decides : (o : Ordering) → Decides (is_lt o) (o ≡ Less)
 less_decides Less = (λ _. refl, λ _. refl)

@@ -1,11 +1,7 @@
 -- The walk looks at no more bytes than it takes.
-use Rattle.std.proofs.Common.{◌≡◌, ℕ, Bool, true, false, List, ◌++◌, Option, Ok, slice_get, sym, ◌∙◌, ap}
-use Rattle.std.proofs.lemmas.List.{append_cancel_right}
-use Rattle.pg_certificate.specs.declared.record.Record.{Record}
+use Rattle.pg_checker.proofs.Common.{◌≡◌, ℕ, Bool, true, false, List, ◌++◌, Option, Ok, slice_get, sym, ◌∙◌, ap, append_cancel_right, Record, Rules, WalkState, Shape, Opened, take_room, cut_answer, judge, head, visit, Took, IsExact}
 use Rattle.pg_certificate.specs.declared.record.Record.TheVariants.{Expand as Expanded, Cut as CutBy, Ref as RefTo, Priced as PricedBy}
-use Rattle.pg_checker.specs.Tree.{Rules, spelling}
-use Rattle.pg_checker.specs.Walk.{WalkState, Shape, Opened, take_room, cut_answer, judge, head, visit, Took}
-use Rattle.pg_checker.specs.Claims.{IsExact}
+use Rattle.pg_checker.specs.Tree.{spelling}
 use Rattle.pg_checker.proofs.Steps.{room_ok, cut_ok, ref_ok, Paid, head_ok}
 use Rattle.pg_checker.proofs.Exact.{visit_ok}
 use Rattle.pg_checker.proofs.Back.{ref_fits, fits_visit, head_pays}

@@ -1,15 +1,5 @@
 -- What was opened begins with its header. Leads to the contracts of `open` and `answer_opened`.
-use Rattle.std.proofs.Common.{◌≡◌, ℕ, List, [], Option, Some, None, IfSome, Ok, refl, subst}
-use Rattle.std.specs.Io.KnownBytes.{prepend_known}
-use Rattle.pg_board.specs.Placement.{Placement}
-use Rattle.pg_certificate.specs.declared.record.Header.{Header}
-use Rattle.pg_certificate.specs.Reader.{ReaderState, Reads, to_come}
-use Rattle.pg_certificate.specs.Reading.{header_at}
-use Rattle.pg_certificate.specs.Spelling.{header_spelling, IsVersion}
-use Rattle.pg_checker.specs.Check.{header_for}
-use Rattle.pg_checker.specs.Naming.{Begins}
-use Rattle.pg_checker.specs.Opening.{OpenedState, behind, bytes_of}
-use Rattle.pg_checker.specs.inner.Checking.{Headed}
+use Rattle.pg_checker.proofs.Common.{◌≡◌, ℕ, List, [], Option, Some, None, IfSome, Ok, refl, subst, prepend_known, Placement, Header, ReaderState, Reads, to_come, header_at, header_spelling, IsVersion, header_for, Begins, OpenedState, behind, bytes_of, Headed}
 use Rattle.pg_checker.proofs.Certifying.{left_alone}
 
 known_begins : (Holds : Header → Type 0) (known after : Option (List ℕ)) (h : Header) → Reads {A = Header} header_at known after (Ok h) → Holds h

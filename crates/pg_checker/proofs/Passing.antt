@@ -1,32 +1,10 @@
 -- Passing over moves that do not lead to the diagram leaves what the walk answers. Leads to the contracts of `skip_to_solution` and `run`.
-use Rattle.std.proofs.Common.{◌≡◌, ◌≢◌, ℕ, zero, suc, ◌+◌, ◌<◌, ◌≤◌, Bool, true, false, ◌||◌, List, [], ◌∷◌, ◌++◌, length, reverse, Option, Some, None, Result, IsTrue, ◌↔◌, refl, sym, ◌∙◌, ap, subst, arith, append_assoc}
-use Rattle.std.specs.List.{Contains}
-use Rattle.std.proofs.lemmas.List.{append-nil, length-append}
-use Rattle.std.proofs.lemmas.List.Elements.{Contains-append_left, Contains-append_cases}
-use Rattle.std.proofs.Common.{inl, inr}
-use Rattle.pg_board.specs.Placement.{Placement}
-use Rattle.pg_position.specs.declared.state.State.{State}
-use Rattle.pg_position.specs.declared.moves.Move.{Move}
-use Rattle.pg_position.specs.Position.{IsPosition}
-use Rattle.pg_position.specs.Step.{Legal}
-use Rattle.pg_position.proofs.FutureLemmas.{one_result}
-use Rattle.pg_board.specs.SquareSets.{IsLastIn}
-use Rattle.pg_moves.specs.Left.{MovesLeft, IsRest, to_square}
+use Rattle.pg_checker.proofs.Common.{◌≡◌, ◌≢◌, ℕ, zero, suc, ◌+◌, ◌<◌, ◌≤◌, Bool, true, false, ◌||◌, List, [], ◌∷◌, ◌++◌, length, reverse, Option, Some, None, Result, IsTrue, ◌↔◌, refl, sym, ◌∙◌, ap, subst, arith, append_assoc, Contains, append-nil, length-append, Contains-append_left, Contains-append_cases, inl, inr, Placement, State, Move, IsPosition, Legal, one_result, IsLastIn, MovesLeft, IsRest, to_square, IsNext, IsLast, Contains-none, Contains-cons, most_moves, visit, each, resume, effort, Stacked, Cuts, chess_with, left_after, path, frame_of, frames_of, count_named, state_at, work_at, LeadsElsewhere, AllElsewhere, PassesOver, PassesMan, Machine}
 use Rattle.pg_moves.specs.Targets.{plain_move}
-use Rattle.pg_moves.specs.Moves.{IsNext, IsLast}
-use Rattle.pg_moves.proofs.SortLemmas.{Contains-none, Contains-cons}
-use Rattle.pg_moves.specs.inner.Places.{most_moves}
 use Rattle.pg_checker.specs.Tree as tree
 use Rattle.pg_checker.specs.Walk as walk
-use Rattle.pg_checker.specs.Walk.{visit, each, ◌>>=◌}
-use Rattle.pg_checker.specs.inner.Frames.{resume, effort, Stacked}
-use Rattle.pg_checker.specs.Chess.{Cuts, chess_with}
-use Rattle.pg_checker.specs.Left.{left_after}
-use Rattle.pg_checker.specs.inner.Machine.{path, frame_of, frames_of, count_named, state_at, work_at}
-use Rattle.pg_checker.specs.Passing.{LeadsElsewhere, AllElsewhere, PassesOver}
-use Rattle.pg_checker.specs.inner.Leading.{PassesMan}
+use Rattle.pg_checker.specs.Walk.{◌>>=◌}
 use Rattle.pg_checker.specs.declared.machine.Frame.{Frame}
-use Rattle.pg_checker.specs.declared.machine.Machine.{Machine}
 use Rattle.pg_checker.proofs.Goings.{goes_as}
 use Rattle.pg_checker.proofs.Left.{left_are, left_next, left_last, left_between, left_split, between_are, same_man}
 use Rattle.pg_checker.proofs.Running.{Runs, finishes, dry_front, goal_off, frames_popped, kept_popped}

@@ -1,19 +1,10 @@
 -- One tree after the other. Leads to the contracts of `tree_of` and `all_trees`.
-use Rattle.std.proofs.Common.{◌≡◌, ℕ, suc, ◌+◌, ◌-◌, ◌<◌, ◌≤◌, Bool, List, [], ◌++◌, reverse, Option, Result, Ok, Err, refl, sym, ◌∙◌, ap, subst, arith}
-use Rattle.pg_board.specs.Placement.{Placement}
-use Rattle.pg_position.specs.declared.state.State.{State}
-use Rattle.pg_position.specs.declared.moves.Move.{Move}
+use Rattle.pg_checker.proofs.Common.{◌≡◌, ℕ, suc, ◌+◌, ◌-◌, ◌<◌, ◌≤◌, Bool, List, [], ◌++◌, reverse, Option, Result, Ok, Err, refl, sym, ◌∙◌, ap, subst, arith, Placement, State, Move, visit, run, finish, enter, Stacked, Cuts, chess_with, IsReady, path, frames_of, count_named, state_at, work_at, Goes, Stops, Says, Machine, Stop}
 use Rattle.pg_checker.specs.Tree as tree
 use Rattle.pg_checker.specs.Walk as walk
-use Rattle.pg_checker.specs.Walk.{visit, ◌>>=◌}
-use Rattle.pg_checker.specs.Whole.{run}
-use Rattle.pg_checker.specs.inner.Frames.{finish, enter, Stacked}
-use Rattle.pg_checker.specs.Chess.{Cuts, chess_with}
-use Rattle.pg_checker.specs.inner.Machine.{IsReady, path, frames_of, count_named, state_at, work_at}
-use Rattle.pg_checker.specs.inner.Steps.{Answer, Goes, Stops, Says}
+use Rattle.pg_checker.specs.Walk.{◌>>=◌}
+use Rattle.pg_checker.specs.inner.Steps.{Answer}
 use Rattle.pg_checker.specs.declared.machine.Frame.{Frame}
-use Rattle.pg_checker.specs.declared.machine.Machine.{Machine}
-use Rattle.pg_checker.specs.inner.Halting.{Stop}
 use Rattle.pg_checker.proofs.Frames.{start_is, enter_stacked}
 use Rattle.pg_checker.proofs.FrameViews.{path_none}
 use Rattle.pg_checker.proofs.Goings.{stays, goes_on, goes_as, goes_then, stops_on, stops_then, stops_as}

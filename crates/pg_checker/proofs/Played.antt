@@ -1,16 +1,6 @@
 -- The open nodes lead from one to the next. Leads to the contracts of `enter`, `turn` and `run`.
-use Rattle.std.proofs.Common.{◌≡◌, ℕ, suc, ◌+◌, Bool, List, [], ◌∷◌, ◌++◌, length, reverse, Option, Some, sym, ◌∙◌, ap, subst, arith}
-use Rattle.std.proofs.lemmas.List.{reverse-append, length-append}
-use Rattle.arrayvec.specs.ArrayVec.{ArrayVec}
-use Rattle.pg_position.specs.declared.state.State.{State}
-use Rattle.pg_position.specs.declared.moves.Move.{Move}
-use Rattle.pg_position.specs.Array.{array_state}
-use Rattle.pg_position.specs.Step.{Legal}
-use Rattle.pg_position.specs.Game.{IsGame}
-use Rattle.pg_checker.specs.inner.Machine.{ArePlayed, Closes, LeadTo, OnTop, Plays, path, played}
-use Rattle.pg_checker.specs.inner.Table.{TableState}
+use Rattle.pg_checker.proofs.Common.{◌≡◌, ℕ, suc, ◌+◌, Bool, List, [], ◌∷◌, ◌++◌, length, reverse, Option, Some, sym, ◌∙◌, ap, subst, arith, reverse-append, length-append, ArrayVec, State, Move, array_state, Legal, IsGame, ArePlayed, Closes, LeadTo, OnTop, Plays, path, played, TableState, Stack}
 use Rattle.pg_checker.specs.declared.machine.Frame.{Frame}
-use Rattle.pg_checker.specs.declared.machine.Stack.{Stack}
 use Rattle.pg_checker.proofs.FrameViews.{path_none, path_more}
 use Rattle.pg_checker.proofs.GameSteps.{game_more}
 

@@ -1,16 +1,7 @@
 -- What the tests by prices and by futures answer. Leads to the contracts of `files_exclude` and `stands_for`.
-use Rattle.std.proofs.Common.{◌≡◌, ◌↔◌, ℕ, Bool, List, [], ◌∷◌, length, IsTrue, subst, arith}
-use Rattle.std.proofs.lemmas.Bool.Decides.{same_from_decides}
-use Rattle.pg_board.specs.declared.man.Color.{Color}
-use Rattle.pg_board.specs.Placement.{Placement}
-use Rattle.pg_position.specs.declared.state.State.{State}
-use Rattle.pg_position.specs.Future.{SameFuture}
-use Rattle.pg_captures.specs.PriceLists.{PriceList, list_of}
+use Rattle.pg_checker.proofs.Common.{◌≡◌, ◌↔◌, ℕ, Bool, List, [], ◌∷◌, length, IsTrue, subst, arith, same_from_decides, Color, Placement, State, SameFuture, PriceList, list_of, pawn_prices_test_is, stands_for, files_by}
 use Rattle.pg_pawns.specs.PawnPrices.{PawnPricesExclude}
-use Rattle.pg_pawns.specs.PricesDecided.{pawn_prices_test_is}
 use Rattle.pg_price_lists.specs.PriceRecords.{u_at, v_at}
-use Rattle.pg_checker.specs.Chess.{stands_for}
-use Rattle.pg_checker.specs.Cuts.{files_by}
 use Rattle.pg_checker.proofs.Chess.{stands_future}
 
 -- in version 2 the answer is that of the futures

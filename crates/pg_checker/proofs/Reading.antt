@@ -1,21 +1,10 @@
 -- Reading a record takes it exactly where its spelling stands.
-use Rattle.std.proofs.Common.{◌≡◌, ℕ, ◌^◌, eqb, ltb, Bool, true, false, cond, ◌&&◌, List, ◌++◌, Result, Ok, Err, refl, ◌∙◌, ap, subst, ltb-true}
-use Rattle.std.proofs.lemmas.Bool.{lt-ltb}
-use Rattle.std.specs.Str.{bytes_eq}
-use Rattle.std.proofs.lemmas.Slice.Eq.{bytes_eq-Decides}
-use Rattle.std.proofs.lemmas.Bool.Decides.{Decides-eqb}
-use Rattle.pg_position.specs.declared.moves.Move.{Move}
-use Rattle.pg_certificate.specs.declared.fault.ReadFault.{ReadFault}
-use Rattle.pg_certificate.specs.declared.fault.ReadFault.TheVariants.{Truncated, Magic, UnknownRecord, Read, Trailing, Failed}
-use Rattle.pg_certificate.specs.declared.record.Record.{Record}
+use Rattle.pg_checker.proofs.Common.{◌≡◌, ℕ, ◌^◌, eqb, ltb, Bool, true, false, cond, ◌&&◌, List, ◌++◌, Result, Ok, Err, refl, ◌∙◌, ap, subst, ltb-true, lt-ltb, bytes_eq, bytes_eq-Decides, Decides-eqb, Move, ReadFault, Truncated, Magic, UnknownRecord, Read, Failed, Record, AreBytes, IsRecordOf, record_at, records_again, records_taken, Cause, TooManyNamed, cause_of, renamed, is_spelled, taken, read}
+use Rattle.pg_certificate.specs.declared.fault.ReadFault.TheVariants.{Trailing}
 use Rattle.pg_certificate.specs.declared.record.Record.TheVariants.{Expand, Cut, Ref, Priced}
-use Rattle.pg_certificate.specs.Spelling.{spelling, AreBytes, IsRecordOf}
-use Rattle.pg_certificate.specs.Reading.{record_at}
-use Rattle.pg_certificate.proofs.RecordLaws.{records_again, records_taken}
+use Rattle.pg_certificate.specs.Spelling.{spelling}
 use Rattle.pg_checker.specs.Tree as tree
-use Rattle.pg_checker.specs.Tree.{Cause, TooManyNamed}
 use Rattle.pg_checker.specs.PriceBytes.{are_prices, are_prices_decides}
-use Rattle.pg_checker.specs.Chess.{cause_of, renamed, is_spelled, taken, read}
 use Rattle.pg_checker.proofs.Steps.{and_left, and_right}
 
 pub spelled_record : (version : ℕ) (x : Record) → is_spelled version x ≡ true → IsRecordOf version x

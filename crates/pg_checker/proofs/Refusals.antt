@@ -1,19 +1,11 @@
 -- When a record is refused for its bytes: where they are less than a whole record, and where no record begins so.
-use Rattle.std.proofs.Common.{◌≡◌, ℕ, ◌+◌, ◌*◌, Bool, true, false, cond, ◌&&◌, ◌||◌, eqb, ltb, List, [], ◌∷◌, ◌++◌, length, Result, Ok, Err, refl, sym, ◌∙◌, ap}
-use Rattle.std.specs.Str.{bytes_eq}
-use Rattle.pg_position.specs.declared.moves.Move.{Move}
-use Rattle.pg_certificate.specs.declared.fault.ReadFault.{ReadFault}
-use Rattle.pg_certificate.specs.declared.fault.ReadFault.TheVariants.{Truncated, Magic, UnknownRecord, Read, Trailing, Failed}
-use Rattle.pg_certificate.specs.declared.record.Record.{Record}
+use Rattle.pg_checker.proofs.Common.{◌≡◌, ℕ, ◌+◌, ◌*◌, Bool, true, false, cond, ◌&&◌, ◌||◌, eqb, ltb, List, [], ◌∷◌, ◌++◌, length, Result, Ok, Err, refl, sym, ◌∙◌, ap, bytes_eq, Move, ReadFault, Truncated, Magic, UnknownRecord, Read, Failed, Record, byte_at, byte_from, exactly, number_at, outline_at, lists_at, priced_at, record_at, AreBytes, truncated_is_short, short_is_truncated, unknown_at, at_unknown, Cause, cause_of, renamed, is_spelled, taken, read}
+use Rattle.pg_certificate.specs.declared.fault.ReadFault.TheVariants.{Trailing}
 use Rattle.pg_certificate.specs.Spelling.{spelling}
 use Rattle.pg_certificate.specs.declared.outline.Outline.{Outline}
-use Rattle.pg_certificate.specs.Reading.{◌>>=◌, byte_at, byte_from, exactly, number_at, outline_at, lists_at, priced_at, record_at}
-use Rattle.pg_certificate.specs.Spelling.{AreBytes}
+use Rattle.pg_certificate.specs.Reading.{◌>>=◌}
 use Rattle.pg_certificate.specs.Laws.{IsCutShort, IsUnknownAt}
-use Rattle.pg_certificate.proofs.RecordLaws.{truncated_is_short, short_is_truncated, unknown_at, at_unknown}
 use Rattle.pg_checker.specs.Tree as tree
-use Rattle.pg_checker.specs.Tree.{Cause}
-use Rattle.pg_checker.specs.Chess.{cause_of, renamed, is_spelled, taken, read}
 use Rattle.pg_checker.proofs.Reading.{read_is, read_err}
 
 -- reading a record refuses for one of two reasons

@@ -1,33 +1,13 @@
 -- The loop over the open nodes. Leads to the contract of `run`.
-use Rattle.std.proofs.Common.{append-nil, ◌≡◌, ℕ, suc, ◌+◌, ◌*◌, ◌<◌, ◌≤◌, Bool, true, false, List, [], ◌∷◌, ◌++◌, length, reverse, map, ◌||◌, ◌≢◌, nat_eq, Option, Some, None, IfSome, Result, Ok, Err, refl, sym, ◌∙◌, ap, subst, arith}
-use Rattle.std.proofs.lemmas.List.{length-reverse}
-use Rattle.std.specs.Io.KnownBytes.{Consumes}
-use Rattle.arrayvec.specs.ArrayVec.{ArrayVec}
-use Rattle.pg_certificate.specs.Spelling.{longest_record}
-use Rattle.pg_board.specs.Placement.{Placement}
-use Rattle.pg_position.specs.declared.state.State.{State}
-use Rattle.pg_position.specs.declared.moves.Move.{Move}
-use Rattle.pg_moves.specs.inner.Places.{most_moves}
+use Rattle.pg_checker.proofs.Common.{append-nil, ◌≡◌, ℕ, suc, ◌+◌, ◌*◌, ◌<◌, ◌≤◌, Bool, true, false, List, [], ◌∷◌, ◌++◌, length, reverse, map, ◌||◌, ◌≢◌, nat_eq, Option, Some, None, IfSome, Result, Ok, Err, refl, sym, ◌∙◌, ap, subst, arith, length-reverse, Consumes, ArrayVec, longest_record, Placement, State, Move, most_moves, one_if, visit, each, leaf_answer, resume, turn, finish, effort, Stacked, Cuts, chess_with, ArePlayed, IsReady, entered, entry_of, path, frame_of, frames_of, count_named, state_at, work_at, Goes, Stops, TakesFew, Machine, Stop, Contains-head, Contains-later, Contains, IsPosition, Legal, left_after, LeadsElsewhere, AllElsewhere}
 use Rattle.pg_checker.specs.Tree as tree
-use Rattle.pg_checker.specs.Tree.{one_if}
 use Rattle.pg_checker.specs.Walk as walk
-use Rattle.pg_checker.specs.Walk.{visit, each, leaf_answer, ◌>>=◌}
-use Rattle.pg_checker.specs.inner.Frames.{resume, turn, finish, effort, Stacked}
-use Rattle.pg_checker.specs.Chess.{Cuts, chess_with}
-use Rattle.pg_checker.specs.inner.Machine.{ArePlayed, IsReady, entered, entry_of, path, frame_of, frames_of, count_named, state_at, work_at}
-use Rattle.pg_checker.specs.inner.Steps.{Answer, Goes, Stops, TakesFew}
+use Rattle.pg_checker.specs.Walk.{◌>>=◌}
+use Rattle.pg_checker.specs.inner.Steps.{Answer}
 use Rattle.pg_checker.specs.declared.machine.Frame.{Frame}
-use Rattle.pg_checker.specs.declared.machine.Machine.{Machine}
-use Rattle.pg_checker.specs.inner.Halting.{Stop}
 use Rattle.pg_checker.specs.inner.Halting as stop
 use Rattle.pg_checker.proofs.Chess.{exact_with, few_with, goal_with, play_with}
 use Rattle.pg_checker.proofs.Left.{left_are}
-use Rattle.pg_moves.proofs.SortLemmas.{Contains-head, Contains-later}
-use Rattle.std.specs.List.{Contains}
-use Rattle.pg_position.specs.Position.{IsPosition}
-use Rattle.pg_position.specs.Step.{Legal}
-use Rattle.pg_checker.specs.Left.{left_after}
-use Rattle.pg_checker.specs.Passing.{LeadsElsewhere, AllElsewhere}
 use Rattle.pg_checker.proofs.Turning.{entries_closed}
 use Rattle.pg_checker.proofs.Played.{popped_played}
 use Rattle.pg_checker.proofs.Frames.{turn_is, turn_less, turn_stacked}

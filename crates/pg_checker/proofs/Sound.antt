@@ -1,7 +1,6 @@
 -- A certificate that fits proves that the list is complete.
-use Rattle.std.proofs.Common.{◌≡◌, ℕ, zero, suc, ◌+◌, ◌<◌, ◌⊎◌, Bool, true, false, ◌||◌, List, [], ◌∷◌, ◌++◌, length, Some, slice_get, slice_index_or, Contains, refl, sym, ◌∙◌, subst, inl, inr, ⊎_elim, arith, append_assoc, append-nil}
-use Rattle.pg_checker.specs.Tree.{Tree, Trees, Leaf, Expand, Cut, Ref, Priced, Empty, First, Entry, Rules, EndsOnGoal, Barren, Fits, FitAll, fertile, any_fertile, closed, closed_all, entry}
-use Rattle.pg_checker.specs.Claims.{IsRight, FitFrom, count, IsComplete, IsCertificate}
+use Rattle.pg_checker.proofs.Common.{◌≡◌, ℕ, zero, suc, ◌+◌, ◌<◌, ◌⊎◌, Bool, true, false, ◌||◌, List, [], ◌∷◌, ◌++◌, length, Some, slice_get, slice_index_or, Contains, refl, sym, ◌∙◌, subst, inl, inr, ⊎_elim, arith, append_assoc, append-nil, Tree, Trees, Leaf, Empty, First, Entry, Rules, EndsOnGoal, Fits, FitAll, fertile, any_fertile, closed, closed_all, entry, IsRight, FitFrom, count, IsComplete, IsCertificate}
+use Rattle.pg_checker.specs.Tree.{Expand, Cut, Ref, Priced, Barren}
 
 contains_at : {X : Type 0} (x y : X) (xs : List X) (i : ℕ) → i < length (x ∷ xs) → slice_index_or (x ∷ xs) i y ≡ y → (x ≡ y) ⊎ Contains xs y
 contains_at x y xs zero h e = inl e

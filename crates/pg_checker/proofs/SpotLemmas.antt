@@ -1,14 +1,5 @@
 -- Where a node stands after a legal move. Leads to the contracts of `first_says` and `play_on`.
-use Rattle.std.proofs.Common.{◌≡◌, ◌||◌, Bool, Option, Some, None, IfSome, refl, sym, ap, subst, ◌∙◌}
-use Rattle.pg_position.specs.declared.state.State.{State}
-use Rattle.pg_position.specs.declared.moves.Move.{Move}
-use Rattle.pg_position.specs.Position.{IsPosition}
-use Rattle.pg_position.specs.Step.{IsLegal, Legal}
-use Rattle.pg_moves.specs.Left.{MovesLeft}
-use Rattle.pg_moves.specs.Moves.{IsNext}
-use Rattle.pg_moves.proofs.PlayLemmas.{play_of, play_of_legal, play_of_is}
-use Rattle.pg_checker.specs.inner.Machine.{Plays}
-use Rattle.pg_checker.specs.Spots.{played_from}
+use Rattle.pg_checker.proofs.Common.{◌≡◌, ◌||◌, Bool, Option, Some, None, IfSome, refl, sym, ap, subst, ◌∙◌, State, Move, IsPosition, IsLegal, Legal, MovesLeft, IsNext, play_of, play_of_legal, play_of_is, Plays, played_from}
 use Rattle.pg_checker.specs.declared.machine.Frame.{Frame}
 
 -- the move leads there

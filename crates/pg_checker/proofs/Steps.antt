@@ -1,9 +1,6 @@
 -- What each small step of the walk says.
-use Rattle.std.proofs.Common.{◌≡◌, ℕ, zero, suc, Bool, true, false, ◌&&◌, List, ◌++◌, Option, Some, None, Result, Ok, Err, nat_eq, refl, sym, ◌∙◌, ap, eqb-true}
-use Rattle.pg_certificate.specs.declared.record.Record.{Record}
-use Rattle.pg_checker.specs.Tree.{Entry, Rules}
-use Rattle.pg_checker.specs.Walk.{◌>>=◌, WalkState, Shape, Done, Opened, spend_of, take_room, cut_answer, differs_or, ref_answer, judge, head, leaf_answer}
-use Rattle.pg_checker.specs.Claims.{IsExact}
+use Rattle.pg_checker.proofs.Common.{◌≡◌, ℕ, zero, suc, Bool, true, false, ◌&&◌, List, ◌++◌, Option, Some, None, Result, Ok, Err, nat_eq, refl, sym, ◌∙◌, ap, eqb-true, Record, Entry, Rules, WalkState, Shape, Done, Opened, spend_of, take_room, cut_answer, differs_or, ref_answer, judge, head, leaf_answer, IsExact}
+use Rattle.pg_checker.specs.Walk.{◌>>=◌}
 
 pub bind_ok : {A B E : Type 0} (x : Result A E) (f : A → Result B E) (b : B) → (x >>= f) ≡ Ok b → (a : A) × (x ≡ Ok a) × (f a ≡ Ok b)
 bind_ok (Ok a) f b h = (a, refl, h)

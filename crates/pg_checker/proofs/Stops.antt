@@ -1,10 +1,6 @@
 -- Where a front with a first cause is spelled, or more than a certificate, the whole walk answers it.
-use Rattle.std.proofs.Common.{◌≡◌, ◌≢◌, ℕ, zero, suc, ◌+◌, ◌-◌, ◌<◌, ◌⊎◌, List, [], ◌∷◌, ◌++◌, Ok, Err, refl, sym, ◌∙◌, ap, subst, inl, inr, arith, append_assoc, append-nil}
-use Rattle.pg_checker.specs.Tree.{Trees, Empty, First, Cause, Trailing, Entry, Rules, fertile, closed, spelling_all, records_all, named_all}
-use Rattle.pg_checker.specs.Walk.{WalkState, visit, Took}
-use Rattle.pg_checker.specs.Claims.{FitFrom, count, IsExact}
-use Rattle.pg_checker.specs.Front.{Front, front_records, front_named, front_spelling, NextNode, FitFront, CauseAt}
-use Rattle.pg_checker.specs.Whole.{run, ended, answer, closed_from, IsStopped, HasMore}
+use Rattle.pg_checker.proofs.Common.{◌≡◌, ◌≢◌, ℕ, zero, suc, ◌+◌, ◌-◌, ◌<◌, ◌⊎◌, List, [], ◌∷◌, ◌++◌, Ok, Err, refl, sym, ◌∙◌, ap, subst, inl, inr, arith, append_assoc, append-nil, Trees, Empty, First, Cause, Entry, Rules, fertile, closed, spelling_all, records_all, named_all, WalkState, visit, Took, FitFrom, count, IsExact, Front, front_records, front_named, front_spelling, NextNode, FitFront, CauseAt, run, ended, answer, closed_from, IsStopped, HasMore}
+use Rattle.pg_checker.specs.Tree.{Trailing}
 use Rattle.pg_checker.proofs.Back.{fits_visit}
 use Rattle.pg_checker.proofs.Faults.{bind_is}
 use Rattle.pg_checker.proofs.Fronts.{halts_visit}

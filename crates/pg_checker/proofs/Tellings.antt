@@ -1,31 +1,12 @@
 -- What a refusal proves. Leads to the clauses `tells` of `leaf`, `walk` and `check`.
-use Rattle.std.proofs.Common.{◌≡◌, ◌≢◌, ◌↔◌, ℕ, ◌≤◌, Bool, true, false, IsTrue, List, [], length, reverse, Option, Some, Result, Ok, Err, IfErr, sym, ◌∙◌, subst, arith}
-use Rattle.std.proofs.lemmas.List.{length-reverse}
-use Rattle.pg_board.specs.Placement.{Placement}
-use Rattle.pg_position.specs.declared.state.State.{State}
-use Rattle.pg_position.specs.declared.moves.Move.{Move}
-use Rattle.pg_certificate.specs.declared.record.Record.{Record}
+use Rattle.pg_checker.proofs.Common.{◌≡◌, ◌≢◌, ◌↔◌, ℕ, ◌≤◌, Bool, true, false, IsTrue, List, [], length, reverse, Option, Some, Result, Ok, Err, IfErr, sym, ◌∙◌, subst, arith, length-reverse, Placement, State, Move, Record, judge, RefusesRecord, IsExactAnswer, IsSolution, HasShorter, IsMissing, Tells, IsLacking, NamesNoGame, StopTells, HeaderFails, fault_of, Judges, judged_at, LeadTo, entries_of, path, Stops, Names, Opening, Fault, Halt, Stop, stops}
 use Rattle.pg_certificate.specs.declared.record.Record.TheVariants.{Expand as Expanded, Cut as CutBy, Ref as RefTo, Priced as PricedBy}
 use Rattle.pg_checker.specs.Tree as tree
-use Rattle.pg_checker.specs.Walk.{judge}
-use Rattle.pg_checker.specs.Front.{RefusesRecord}
-use Rattle.pg_checker.specs.Answer.{IsExactAnswer, IsSolution}
-use Rattle.pg_checker.specs.Telling.{HasShorter, IsMissing, Tells}
-use Rattle.pg_checker.specs.inner.Finds.{IsLacking}
-use Rattle.pg_checker.specs.inner.Telling.{NamesNoGame, StopTells}
-use Rattle.pg_checker.specs.inner.Checking.{HeaderFails, fault_of}
-use Rattle.pg_checker.specs.inner.Judging.{Judges, judged_at}
-use Rattle.pg_checker.specs.inner.Machine.{LeadTo, entries_of, path}
-use Rattle.pg_checker.specs.inner.Steps.{Stops}
-use Rattle.pg_checker.specs.declared.machine.Names.{Names}
-use Rattle.pg_checker.specs.declared.machine.Opening.{Opening}
 use Rattle.pg_checker.specs.declared.machine.Frame.{Frame}
-use Rattle.pg_checker.specs.declared.fault.Fault.{Fault}
 use Rattle.pg_checker.specs.declared.fault.Fault.TheVariants as fault
-use Rattle.pg_checker.specs.declared.halt.Halt.{Halt}
 use Rattle.pg_checker.specs.declared.halt.Halt.TheVariants as halt
 use Rattle.pg_checker.specs.declared.halt.Reason.TheVariants as reason
-use Rattle.pg_checker.specs.inner.Halting.{Stop, full, stops}
+use Rattle.pg_checker.specs.inner.Halting.{full}
 use Rattle.pg_checker.specs.inner.Halting as stop
 use Rattle.pg_checker.proofs.Faults.{judge_err}
 

@@ -1,26 +1,6 @@
 -- What is written at the topmost frame, and what the turns make of it. Leads to the contracts of `turn` and `run`.
-use Rattle.std.proofs.Common.{◌≡◌, ℕ, zero, suc, ◌+◌, ◌<◌, ◌≤◌, Bool, true, ◌||◌, List, [], ◌∷◌, ◌++◌, length, reverse, take, get_or, set, Option, Some, None, MatchOption, Result, Ok, Err, refl, sym, ◌∙◌, ap, subst, arith, lt_of_lt_of_le}
-use Rattle.std.specs.Bool.{◌==◌}
-use Rattle.std.proofs.lemmas.Bool.{eqb-true}
-use Rattle.std.proofs.lemmas.List.{reverse-append, length-append}
-use Rattle.arrayvec.specs.ArrayVec.{ArrayVec}
-use Rattle.pg_board.specs.Placement.{Placement}
-use Rattle.pg_position.specs.declared.state.State.{State}
-use Rattle.pg_position.specs.declared.moves.Move.{Move}
-use Rattle.pg_position.specs.Position.{IsPosition}
-use Rattle.pg_moves.specs.Moves.{IsLast}
-use Rattle.pg_moves.specs.inner.Places.{most_moves}
-use Rattle.pg_checker.specs.Tree.{one_if}
-use Rattle.pg_checker.specs.Chess.{Cuts, chess_with}
-use Rattle.pg_checker.specs.Passing.{AllElsewhere}
-use Rattle.pg_checker.specs.inner.Frames.{enter, effort, Stacked}
-use Rattle.pg_checker.specs.inner.Halting.{Stop}
-use Rattle.pg_checker.specs.inner.Machine.{Closes, HasNone, IsReady, OnTop, Passed, Plays, path, frames_of, count_named, state_at, work_at}
-use Rattle.pg_checker.specs.inner.Steps.{Stops, Says}
+use Rattle.pg_checker.proofs.Common.{◌≡◌, ℕ, zero, suc, ◌+◌, ◌<◌, ◌≤◌, Bool, true, ◌||◌, List, [], ◌∷◌, ◌++◌, length, reverse, take, get_or, set, Option, Some, None, MatchOption, Result, Ok, Err, refl, sym, ◌∙◌, ap, subst, arith, lt_of_lt_of_le, ◌==◌, eqb-true, reverse-append, length-append, ArrayVec, Placement, State, Move, IsPosition, IsLast, most_moves, one_if, Cuts, chess_with, AllElsewhere, enter, effort, Stacked, Stop, Closes, HasNone, IsReady, OnTop, Passed, Plays, path, frames_of, count_named, state_at, work_at, Stops, Says, Machine, Stack, TableState}
 use Rattle.pg_checker.specs.declared.machine.Frame.{Frame}
-use Rattle.pg_checker.specs.declared.machine.Machine.{Machine}
-use Rattle.pg_checker.specs.declared.machine.Stack.{Stack}
-use Rattle.pg_checker.specs.inner.Table.{TableState}
 use Rattle.pg_checker.proofs.Passing.{runs_over, over_less, frame_plies}
 use Rattle.pg_checker.proofs.Running.{Runs, Few, finishes, runs_on, runs_less, runs_stop, runs_skip, skip_less, kept_popped, depth}
 use Rattle.pg_checker.proofs.Turning.{closed_by, under, with_frames, kept_pushed, says_tops, tops, tops_say, turn_closes, turn_plays}

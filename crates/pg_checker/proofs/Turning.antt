@@ -1,25 +1,8 @@
 -- One turn of the loop. Leads to the contracts of `turn` and `run`.
-use Rattle.std.proofs.Common.{◌≡◌, ℕ, suc, ◌+◌, Bool, true, false, ◌||◌, List, [], ◌∷◌, ◌++◌, reverse, map, Option, Some, Result, Ok, Err, refl, sym, ◌∙◌, ap, subst, arith}
-use Rattle.arrayvec.specs.ArrayVec.{ArrayVec}
-use Rattle.pg_board.specs.Placement.{Placement}
-use Rattle.pg_position.specs.declared.state.State.{State}
-use Rattle.pg_position.specs.declared.moves.Move.{Move}
-use Rattle.pg_position.specs.Position.{IsPosition}
-use Rattle.pg_position.specs.Step.{Legal}
-use Rattle.pg_moves.specs.Moves.{IsNext, IsLast}
-use Rattle.pg_moves.proofs.PlayLemmas.{play_of_is}
+use Rattle.pg_checker.proofs.Common.{◌≡◌, ℕ, suc, ◌+◌, Bool, true, false, ◌||◌, List, [], ◌∷◌, ◌++◌, reverse, map, Option, Some, Result, Ok, Err, refl, sym, ◌∙◌, ap, subst, arith, ArrayVec, Placement, State, Move, IsPosition, Legal, IsNext, IsLast, play_of_is, one_if, entry, enter, turn, turn_at, turn_top, Work, Cuts, chess_with, left_after, path, entered, entry_of, entries_of, frame_of, frames_of, count_named, state_at, work_at, Goes, Stops, Says, Machine, Stack, TableState, Stop}
 use Rattle.pg_checker.specs.Tree as tree
-use Rattle.pg_checker.specs.Tree.{one_if, entry}
-use Rattle.pg_checker.specs.inner.Frames.{enter, turn, turn_at, turn_top, Work}
-use Rattle.pg_checker.specs.Chess.{Cuts, chess_with}
-use Rattle.pg_checker.specs.Left.{left_after}
-use Rattle.pg_checker.specs.inner.Machine.{path, entered, entry_of, entries_of, frame_of, frames_of, count_named, state_at, work_at}
-use Rattle.pg_checker.specs.inner.Steps.{Answer, Goes, Stops, Says}
+use Rattle.pg_checker.specs.inner.Steps.{Answer}
 use Rattle.pg_checker.specs.declared.machine.Frame.{Frame}
-use Rattle.pg_checker.specs.declared.machine.Machine.{Machine}
-use Rattle.pg_checker.specs.declared.machine.Stack.{Stack}
-use Rattle.pg_checker.specs.inner.Table.{TableState}
-use Rattle.pg_checker.specs.inner.Halting.{Stop}
 use Rattle.pg_checker.proofs.Goings.{stays, goes_as, stops_as}
 use Rattle.pg_checker.proofs.FrameViews.{path_more, frames_more, count_more}
 use Rattle.pg_checker.proofs.Left.{left_next, left_last}

@@ -1,50 +1,17 @@
 -- What the check answers, from what its parts answer. Leads to the contract of `check`.
-use Rattle.std.proofs.Common.{◌≡◌, ◌≢◌, ℕ, zero, suc, ◌+◌, inl, inr, Bool, true, false, cond, eqb, List, [], ◌∷◌, ◌++◌, length, Option, Some, None, IfSome, slice_get, Result, Ok, Err, refl, sym, ◌∙◌, ap, subst, arith}
-use Rattle.std.specs.Option.{option_map}
-use Rattle.std.proofs.lemmas.List.{length-append}
-use Rattle.std.proofs.lemmas.Option.{slice_get_within, get_or_from_slice_get}
-use Rattle.pg_board.specs.Placement.{Placement}
-use Rattle.pg_position.specs.declared.state.State.{State}
-use Rattle.pg_position.specs.declared.moves.Move.{Move}
-use Rattle.pg_position.specs.Array.{array_state}
-use Rattle.pg_position.specs.Position.{IsPosition}
+use Rattle.pg_checker.proofs.Common.{◌≡◌, ◌≢◌, ℕ, zero, suc, ◌+◌, inl, inr, Bool, true, false, cond, eqb, List, [], ◌∷◌, ◌++◌, length, Option, Some, None, IfSome, slice_get, Result, Ok, Err, refl, sym, ◌∙◌, ap, subst, arith, option_map, length-append, slice_get_within, get_or_from_slice_get, Placement, State, Move, array_state, IsPosition, Color, PriceList, pawn_prices_test_tells, travel_prices_test, travel_prices_test_tells, packed_of, packed_byte, Header, header_at, header_spelling, IsHeader, IsVersion, Record, Rules, spelling_all, IsSolution, IsExactAnswer, AreSolutions, IsListFault, Cuts, IsSoundCut, chess, chess_with, CheckRules, cuts_by, files_by, prices_by, Terms, terms, header_for, IsHeaded, IsCertified, Accepts, IsRefused, Refuses, StopsAt, Headed, HeaderFails, AreKnown, Answers, fault_of, CauseAt, RecordCause, no_budget, no_record, refused, Stops, FailsRead, answer, IsStopped, HasMore, Proved, Fault, ListFault, WrongLength, NotReaching, Stop}
 use Rattle.pg_position.specs.Game.{Barren}
-use Rattle.pg_board.specs.declared.man.Color.{Color}
 use Rattle.pg_captures.specs.Lists.{first_of}
-use Rattle.pg_captures.specs.PriceLists.{PriceList}
 use Rattle.pg_pawns.specs.lemmas.PawnPricesLaw.{pawn_prices_barren}
-use Rattle.pg_pawns.specs.PricesDecided.{pawn_prices_test_tells}
 use Rattle.pg_travel.specs.lemmas.TravelPricesLaw.{travel_prices_barren}
-use Rattle.pg_travel.specs.PricesDecided.{travel_prices_test, travel_prices_test_tells}
 use Rattle.std.proofs.lemmas.List.FromFn.{length-map-range_with_len}
-use Rattle.pg_fen.specs.Packing.{packed_of, packed_byte}
 use Rattle.pg_certificate.specs.declared.fault.ReadFault as reading_fault
 use Rattle.pg_certificate.specs.declared.fault.ReadFault.TheVariants as reading
-use Rattle.pg_certificate.specs.declared.record.Header.{Header}
-use Rattle.pg_certificate.specs.Reading.{header_at}
-use Rattle.pg_certificate.specs.Spelling.{header_spelling, IsHeader, IsVersion}
 use Rattle.pg_certificate.proofs.HeaderLaws.{headers_again}
-use Rattle.pg_certificate.specs.declared.record.Record.{Record}
 use Rattle.pg_certificate.specs.declared.record.Record.TheVariants.{Expand, Cut, Ref, Priced}
 use Rattle.pg_checker.specs.Tree as tree
 use Rattle.pg_checker.specs.Walk as walk
-use Rattle.pg_checker.specs.Tree.{Rules, spelling_all}
-use Rattle.pg_checker.specs.Answer.{IsSolution, IsExactAnswer, AreSolutions}
-use Rattle.pg_checker.specs.Listed.{IsListFault}
-use Rattle.pg_checker.specs.Chess.{Cuts, IsSoundCut, chess, chess_with}
-use Rattle.pg_checker.specs.Cuts.{CheckRules, cuts_by, files_by, prices_by}
-use Rattle.pg_checker.specs.Terms.{Terms, terms}
-use Rattle.pg_checker.specs.Check.{header_for, IsHeaded, IsCertified, Accepts, IsRefused, Refuses, StopsAt}
-use Rattle.pg_checker.specs.inner.Checking.{Headed, HeaderFails, AreKnown, Answers, fault_of}
-use Rattle.pg_checker.specs.Front.{CauseAt, RecordCause, no_budget, no_record, refused}
-use Rattle.pg_checker.specs.inner.Steps.{Stops, FailsRead}
-use Rattle.pg_checker.specs.Whole.{answer, IsStopped, HasMore}
-use Rattle.pg_checker.specs.declared.certify.Proved.{Proved}
-use Rattle.pg_checker.specs.declared.fault.Fault.{Fault}
 use Rattle.pg_checker.specs.declared.fault.Fault.TheVariants as fault
-use Rattle.pg_checker.specs.declared.fault.ListFault.{ListFault}
-use Rattle.pg_checker.specs.declared.fault.ListFault.TheVariants.{WrongLength, NotReaching}
-use Rattle.pg_checker.specs.inner.Halting.{Stop}
 use Rattle.pg_checker.specs.inner.Halting as stop
 use Rattle.pg_checker.proofs.Chess.{exact_with, plain_with, read_with, yes_is_exact}
 use Rattle.pg_checker.proofs.Reading.{read_no_trailing}

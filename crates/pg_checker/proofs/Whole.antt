@@ -1,12 +1,8 @@
 -- The answer to the whole of the bytes.
-use Rattle.std.proofs.Common.{◌≡◌, ◌≢◌, ℕ, zero, suc, ◌+◌, ◌-◌, ◌<◌, ◌⊎◌, true, false, List, [], ◌∷◌, ◌++◌, Ok, Err, Contains, refl, sym, ◌∙◌, ap, ap₂, subst, inl, inr, ⊎_elim, arith, append_assoc, append-nil}
-use Rattle.pg_certificate.specs.declared.record.Record.{Record}
+use Rattle.pg_checker.proofs.Common.{◌≡◌, ◌≢◌, ℕ, zero, suc, ◌+◌, ◌-◌, ◌<◌, ◌⊎◌, true, false, List, [], ◌∷◌, ◌++◌, Ok, Err, Contains, refl, sym, ◌∙◌, ap, ap₂, subst, inl, inr, ⊎_elim, arith, append_assoc, append-nil, Record, Trees, Empty, First, Cause, Entry, Rules, EndsOnGoal, Fits, FitAll, fertile, closed, spelling_all, records_all, named_all, TooManyNamed, WalkState, visit, Took, FitFrom, count, IsCertificate, IsComplete, IsRight, IsExact, RefusesRecord, no_budget, no_record, refused, Front, front_records, front_named, front_spelling, NextNode, FitFront, CauseAt, IsAtNamed, run, ended, answer, closed_from, IsAccepted, IsStopped, HasMore, full_all, full_from}
 use Rattle.pg_certificate.specs.declared.record.Record.TheVariants.{Expand as Expanded, Cut as CutBy, Ref as RefTo, Priced as PricedBy}
-use Rattle.pg_checker.specs.Tree.{Trees, Empty, First, Cause, Trailing, Entry, Rules, EndsOnGoal, Fits, FitAll, fertile, closed, spelling, spelling_all, records_all, named_all, TooManyNamed}
-use Rattle.pg_checker.specs.Walk.{WalkState, visit, Took}
-use Rattle.pg_checker.specs.Claims.{FitFrom, count, IsCertificate, IsComplete, IsRight, IsExact}
-use Rattle.pg_checker.specs.Front.{RefusesRecord, no_budget, no_record, refused, Front, front_records, front_named, front_spelling, NextNode, FitFront, CauseAt}
-use Rattle.pg_checker.specs.Whole.{IsAtNamed, run, ended, answer, closed_from, IsAccepted, IsStopped, HasMore, full, full_all, full_from}
+use Rattle.pg_checker.specs.Tree.{Trailing, spelling}
+use Rattle.pg_checker.specs.Whole.{full}
 use Rattle.pg_checker.proofs.Steps.{bind_ok}
 use Rattle.pg_checker.proofs.Exact.{visit_ok}
 use Rattle.pg_checker.proofs.Back.{same_state, fits_visit}

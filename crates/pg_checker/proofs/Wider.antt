@@ -1,9 +1,7 @@
 -- A certificate that fits some rules fits wider ones, that list more games, take more records and let an entry stand for more positions. Leads to the contract of `answer` and to the law of upgrades.
-use Rattle.std.proofs.Common.{◌≡◌, ℕ, zero, suc, Bool, true, false, ◌||◌, List, [], ◌∷◌, ◌++◌, Result, refl, sym, ap, subst, ◌∙◌}
-use Rattle.pg_certificate.specs.declared.record.Record.{Record}
+use Rattle.pg_checker.proofs.Common.{◌≡◌, ℕ, zero, suc, Bool, true, false, ◌||◌, List, [], ◌∷◌, ◌++◌, Result, refl, sym, ap, subst, ◌∙◌, Record, Tree, Trees, Leaf, Empty, First, Cause, Entry, Rules, fertile, any_fertile, entry, closed, closed_all, Fits, FitAll, spelling_all, FitFrom, count, IsCertificate}
 use Rattle.pg_certificate.specs.declared.record.Record.TheVariants.{Expand as Expanded, Cut as CutBy, Ref as RefTo, Priced as PricedBy}
-use Rattle.pg_checker.specs.Tree.{Tree, Trees, Leaf, Expand, Cut, Ref, Priced, Empty, First, Cause, Entry, Rules, fertile, any_fertile, entry, closed, closed_all, Fits, FitAll, spelling, spelling_all}
-use Rattle.pg_checker.specs.Claims.{FitFrom, count, IsCertificate}
+use Rattle.pg_checker.specs.Tree.{Expand, Cut, Ref, Priced, spelling}
 
 module _ {P M : Type 0} (r : Rules P M) (listed : List M → Bool) (same : P → P → Bool) (recorded : Record → Bool) (reading : List ℕ → Result (Record × List ℕ) (Cause M)) where
   abbrev pub wider : Rules P M

@@ -1,19 +1,10 @@
 -- A second game and a shorter one against the exact answer. Leads to the laws of cooks and to the headline of `cooks`.
-use Rattle.std.proofs.Common.{◌≡◌, ◌≢◌, ℕ, ◌<◌, ◌≤◌, List, [], ◌∷◌, inl, inr, length, refl, sym, subst, arith, ◌∙◌}
-use Rattle.std.specs.List.{Contains}
+use Rattle.pg_cooks.proofs.Common.{◌≡◌, ◌≢◌, ℕ, ◌<◌, ◌≤◌, List, [], ◌∷◌, inl, inr, length, refl, sym, subst, arith, ◌∙◌, Contains, Placement, Move, IsSolution, IsExactAnswer, AreSolutions, IsStanding, Standing, IsCookAnswer, IsRefuted, CookAnswer, Cook, Shorter, NotFound}
 use Rattle.std.proofs.lemmas.List.Elements.{Contains-push_cases}
-use Rattle.pg_board.specs.Placement.{Placement}
-use Rattle.pg_position.specs.declared.moves.Move.{Move}
 use Rattle.pg_position.specs.Game.{IsOnce}
 use Rattle.pg_moves.proofs.SortLemmas.{Contains-head, Contains-none}
-use Rattle.pg_checker.specs.Answer.{IsSolution, IsExactAnswer, AreSolutions}
-use Rattle.pg_cooks.specs.Standing.{IsStanding}
-use Rattle.pg_cooks.specs.declared.standing.Standing.{Standing}
 use Rattle.pg_cooks.specs.declared.standing.Standing.TheVariants.{NotSound, AtLeastOne, NoneGiven}
 use Rattle.pg_cooks.specs.Unsound.{IsUnsound, HasNoAnswer, IsStandingTrue}
-use Rattle.pg_cooks.specs.Cooks.{IsCookAnswer, IsRefuted}
-use Rattle.pg_cooks.specs.declared.finding.CookAnswer.{CookAnswer}
-use Rattle.pg_cooks.specs.declared.finding.CookAnswer.TheVariants.{Cook, Shorter, NotFound}
 
 -- what a list of one game contains is that game
 pub only : (g x : List Move) → Contains (g ∷ []) x → g ≡ x

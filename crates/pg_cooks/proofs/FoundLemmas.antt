@@ -1,11 +1,6 @@
 -- A game that a search has met, tested. Leads to the contracts of `is_solution` and `shown`.
-use Rattle.std.proofs.Common.{◌≡◌, ◌≢◌, ℕ, ◌<◌, ◌↔◌, Bool, true, false, IsTrue, OnOk, List, [], inr, length, refl, sym, ap, subst, arith, ◌∙◌}
-use Rattle.std.specs.Prelude.{Result, Ok, Err, is_ok}
-use Rattle.std.specs.List.{Contains}
-use Rattle.pg_board.specs.Placement.{Placement}
-use Rattle.pg_position.specs.declared.moves.Move.{Move}
+use Rattle.pg_cooks.proofs.Common.{◌≡◌, ◌≢◌, ℕ, ◌<◌, ◌↔◌, Bool, true, false, IsTrue, OnOk, List, [], inr, length, refl, sym, ap, subst, arith, ◌∙◌, Result, Ok, Err, is_ok, Contains, Placement, Move, IsSolution, AreSolutions}
 use Rattle.pg_san.specs.Adding.{IsAdded}
-use Rattle.pg_checker.specs.Answer.{IsSolution, AreSolutions}
 
 -- what is said of an Ok holds where the test tells one
 pub when_ok : {A E : Type 0} (r : Result A E) (b : Bool) (P : Type 0) → b ≡ is_ok r → OnOk r P → IsTrue b → P

@@ -1,12 +1,6 @@
 -- The games that are told. Leads to the contract of `run_cooks`.
-use Rattle.std.proofs.Common.{ℕ, List, length}
-use Rattle.pg_board.specs.Placement.{Placement}
-use Rattle.pg_position.specs.declared.moves.Move.{Move}
+use Rattle.pg_cooks.proofs.Common.{ℕ, List, length, Placement, Move, IsSolution, CookAnswer, Cook, Shorter, NotFound, IsCookAnswer, IsTold}
 use Rattle.pg_san.specs.Games.{IsFromArray}
-use Rattle.pg_checker.specs.Answer.{IsSolution}
-use Rattle.pg_cooks.specs.declared.finding.CookAnswer.{CookAnswer}
-use Rattle.pg_cooks.specs.declared.finding.CookAnswer.TheVariants.{Cook, Shorter, NotFound}
-use Rattle.pg_cooks.specs.Cooks.{IsCookAnswer, IsTold}
 
 from_array : (d : Placement) (n : ℕ) (g : List Move) → IsSolution d n g → IsFromArray g
 unfolding IsFromArray

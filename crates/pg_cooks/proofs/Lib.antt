@@ -1,3 +1,4 @@
+mod Common
 pub mod CookLemmas
 mod FoundLemmas
 mod KnownLemmas

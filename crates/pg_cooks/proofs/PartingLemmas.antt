@@ -1,13 +1,8 @@
 -- Games, ply by ply. Leads to the contracts of `write_apart` and `write_pair_apart`.
-use Rattle.std.proofs.Common.{◌≡◌, ℕ, ◌+◌, ◌<◌, ◌≤◌, true, false, List, [], ◌∷◌, Option, Some, length, get_or, drop, refl, sym, ap, subst, arith, ◌∙◌}
-use Rattle.std.specs.Prelude.{slice_get, unwrap_or}
-use Rattle.std.specs.Io.KnownBytes.{Appends}
-use Rattle.std.proofs.KnownBytes.{Appends-nil}
+use Rattle.pg_cooks.proofs.Common.{◌≡◌, ℕ, ◌+◌, ◌<◌, ◌≤◌, true, false, List, [], ◌∷◌, Option, Some, length, get_or, drop, refl, sym, ap, subst, arith, ◌∙◌, slice_get, unwrap_or, Appends, Appends-nil, Move, agrees, apart_text, between_text, is_same, pair_text, parting, plays}
 use Rattle.std.proofs.lemmas.List.{drop_all}
 use Rattle.std.proofs.lemmas.List.Sums.{common_prefix_len-drop_no, common_prefix_len-drop_yes}
 use Rattle.std.proofs.lemmas.Option.{slice_get_within}
-use Rattle.pg_position.specs.declared.moves.Move.{Move}
-use Rattle.pg_cooks.specs.Parting.{agrees, apart_text, between_text, is_same, pair_text, parting, plays}
 
 -- ---- where two games part
 -- with i plies in common, the plies in common are these and those of what is left

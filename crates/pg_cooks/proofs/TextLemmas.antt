@@ -1,17 +1,6 @@
 -- The parts of the reports. Leads to the contracts of `write_standing` and `write_cooks`.
-use Rattle.std.proofs.Common.{◌≡◌, ℕ, List, ◌++◌, Option, Some, length, refl, sym, subst}
-use Rattle.std.specs.Prelude.{codes, decimal}
-use Rattle.std.specs.Io.KnownBytes.{Appends}
-use Rattle.std.proofs.KnownBytes.{Appends-trans}
-use Rattle.pg_certificate.specs.Pushing.{AddsSome}
-use Rattle.pg_board.specs.Placement.{Placement}
-use Rattle.pg_position.specs.declared.moves.Move.{Move}
+use Rattle.pg_cooks.proofs.Common.{◌≡◌, ℕ, List, ◌++◌, Option, Some, length, refl, sym, subst, codes, decimal, Appends, Appends-trans, AddsSome, Placement, Move, AddsLine, AreGameLines, head_text, line_text, IsKnownText, IsStanding, IsGamesReport, standing_text, Standing, CookAnswer, IsAnswerText, IsCooksReport, IsEndText, IsFoundText, foreign_text, within_text}
 use Rattle.pg_texts.specs.Movetext.{IsMovetext}
-use Rattle.pg_texts.specs.Report.{AddsLine, AreGameLines, head_text, line_text}
-use Rattle.pg_cooks.specs.Standing.{IsKnownText, IsStanding, IsGamesReport, standing_text}
-use Rattle.pg_cooks.specs.declared.standing.Standing.{Standing}
-use Rattle.pg_cooks.specs.declared.finding.CookAnswer.{CookAnswer}
-use Rattle.pg_cooks.specs.Cooks.{IsAnswerText, IsCooksReport, IsEndText, IsFoundText, foreign_text, within_text}
 
 -- the head and the games
 pub known_grows : (d : Placement) (plies count : ℕ) (games : List (List Move)) (a b c : Option (List ℕ)) → count ≡ length games → Appends a b (head_text d plies count) → AddsSome (AreGameLines games) b c → AddsSome (IsKnownText d plies games) a c

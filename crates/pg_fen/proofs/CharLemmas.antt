@@ -1,19 +1,7 @@
 -- A text is cut and measured by its bytes as it is by its characters.
-use Rattle.std.proofs.Common.{◌≡◌, ℕ, ◌+◌, ◌-◌, ◌/◌, ◌%◌, ◌≤◌, ◌<◌, Bool, true, false, cond, List, [], ◌∷◌, ◌++◌, length, get_or, refl, sym, ap, subst, ◌∙◌, arith, inl, inr, zero-add}
-use Rattle.std.specs.Prelude.{nat_lt, nat_le, ◌&&◌, IsUtf8, map}
-use Rattle.std.specs.Str.{chars}
-use Rattle.std.specs.List.{sum_by, slice_split, onto_first, list_all, filter, count_by, All}
+use Rattle.pg_fen.proofs.Common.{◌≡◌, ℕ, ◌+◌, ◌-◌, ◌/◌, ◌%◌, ◌≤◌, ◌<◌, Bool, true, false, cond, List, [], ◌∷◌, ◌++◌, length, get_or, refl, sym, ap, subst, ◌∙◌, arith, inl, inr, zero-add, nat_lt, nat_le, ◌&&◌, IsUtf8, map, chars, sum_by, slice_split, onto_first, list_all, filter, count_by, All, cases_lt, nat_tests, length-append, length-map, sum_by-append, sum_by-cons, All-cons, All-nil, All-head, All-tail, slice_split-cons_no, slice_split-cons_yes, length-slice_split, encodes-chars, is_field_gap, fields, is_run, is_slash, width_of, width_of_char, is_eight_wide, chars_are_eight_wide, ranks_fit, ranks_fit_by_chars}
 use Rattle.std.proofs.Math.Utf8.{encodes}
-use Rattle.std.proofs.lemmas.Bool.{cases_lt}
-use Rattle.std.proofs.lemmas.Bool.Decides.{nat_tests}
-use Rattle.std.proofs.lemmas.List.{length-append, length-map}
-use Rattle.std.proofs.lemmas.List.Sums.{sum_by-append, sum_by-cons}
-use Rattle.std.proofs.lemmas.List.Elements.{All-cons, All-nil, All-head, All-tail}
-use Rattle.std.proofs.lemmas.List.Splits.{slice_split-cons_no, slice_split-cons_yes, length-slice_split}
-use Rattle.std.proofs.lemmas.Str.{encodes-chars}
 use lib.Utf8.{encode}
-use Rattle.pg_fen.specs.Fields.{is_field_gap, fields}
-use Rattle.pg_fen.specs.PlacementText.{is_run, is_slash, width_of, width_of_char, is_eight_wide, chars_are_eight_wide, ranks_fit, ranks_fit_by_chars}
 
 -- ---- the bytes of one character
 -- an ASCII character is its own byte

@@ -1,20 +1,7 @@
 -- A count that is 0 or 1 tells which numbers pass a test: for the kings and pawns of a placement.
-use Rattle.std.proofs.Common.{◌≡◌, ◌≢◌, ℕ, zero, suc, ◌+◌, ◌<◌, Bool, true, false, ◌⊎◌, inl, inr, refl, sym, ap, ◌∙◌, arith}
-use Rattle.std.specs.Prelude.{◌↔◌, ◌==◌, ◌&&◌, Some, None, Option}
-use Rattle.std.proofs.lemmas.Bool.{cases_eq, and_parts, and_from}
-use Rattle.std.proofs.lemmas.Bool.Decides.{nat_tests}
-use Rattle.pg_board.specs.declared.man.Color.{Color}
-use Rattle.pg_board.specs.declared.man.Color.TheVariants.{White, Black}
-use Rattle.pg_board.specs.declared.man.Man.{Man}
-use Rattle.pg_board.specs.declared.man.Kind.TheVariants.{Pawn}
-use Rattle.pg_board.specs.Tally.{one, count_below, tally, tally_below, count_of}
+use Rattle.pg_fen.proofs.Common.{◌≡◌, ◌≢◌, ℕ, zero, suc, ◌+◌, ◌<◌, Bool, true, false, ◌⊎◌, inl, inr, refl, sym, ap, ◌∙◌, arith, ◌↔◌, ◌==◌, ◌&&◌, Some, None, Option, cases_eq, and_parts, and_from, nat_tests, Color, White, Black, Man, Pawn, one, count_below, tally, tally_below, count_of, man, king_of, passes, is_man, kind_eq, rank, Placement, get, IsOnlyKing, HasOneKing, PawnsClause, has_kings, is_edge, is_edge_pawn, has_no_edge_pawn}
 use Rattle.pg_board.specs.lemmas.Sums.{total-none, total-suc}
-use Rattle.pg_board.specs.Men.{man, king_of, passes, is_man, kind_eq}
 use Rattle.pg_board.specs.lemmas.Equalities.{is_man_decides, kind_decides}
-use Rattle.pg_board.specs.Squares.{rank}
-use Rattle.pg_board.specs.Placement.{Placement, get}
-use Rattle.pg_position.specs.Position.{IsOnlyKing, HasOneKing, PawnsClause}
-use Rattle.pg_fen.specs.PlacementText.{has_kings, is_edge, is_edge_pawn, has_no_edge_pawn}
 
 either : (t : Bool) → (t ≡ true) ⊎ (t ≡ false)
 either true = inl refl

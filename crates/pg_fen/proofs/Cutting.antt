@@ -1,9 +1,5 @@
 -- Cutting a text into its parts between gaps, one after another, whatever bytes are gaps.
-use Rattle.std.proofs.Common.{◌≡◌, ℕ, suc, ◌+◌, ◌<◌, ◌≤◌, Bool, true, false, cond, List, [], ◌∷◌, length, take, drop, refl, sym, ap, ◌∙◌, arith}
-use Rattle.std.specs.Prelude.{not, nat_lt}
-use Rattle.std.specs.List.{prefix_len, slice_split, filter}
-use Rattle.std.proofs.lemmas.List.{nil_from_length, length-take, length-drop}
-use Rattle.std.proofs.lemmas.List.Sums.{prefix_len-le-length}
+use Rattle.pg_fen.proofs.Common.{◌≡◌, ℕ, suc, ◌+◌, ◌<◌, ◌≤◌, Bool, true, false, cond, List, [], ◌∷◌, length, take, drop, refl, sym, ap, ◌∙◌, arith, not, nat_lt, prefix_len, slice_split, filter, nil_from_length, length-take, length-drop, prefix_len-le-length}
 
 -- what follows a part begins with an empty one
 record Cuts (gap : ℕ → Bool) (part rest whole : List ℕ) : Type 0 where

@@ -1,20 +1,6 @@
 -- The five fields behind the placement read exactly where the grammar spells them.
-use Rattle.std.proofs.Common.{◌≡◌, ◌≢◌, ℕ, zero, suc, ◌+◌, ◌-◌, ◌*◌, ◌≤◌, ◌<◌, Bool, true, false, cond, ◌⊎◌, inl, inr, List, [], ◌∷◌, length, Option, Some, None, refl, sym, ap, subst, ◌∙◌, arith}
-use Rattle.std.specs.Prelude.{◌==◌, ◌&&◌, ◌||◌, nat_lt, nat_le, codes, Result, Ok}
-use Rattle.std.specs.Str.{bytes_eq, all_ascii_digits}
-use Rattle.std.specs.Str.Parse.{digits_value}
-use Rattle.std.specs.List.{list_all}
-use Rattle.std.proofs.lemmas.Bool.{and_parts, and_from}
-use Rattle.std.proofs.lemmas.Bool.Decides.{nat_tests}
-use Rattle.std.proofs.lemmas.Slice.Eq.{bytes_eq-Decides}
-use Rattle.pg_board.specs.declared.man.Color.{Color}
-use Rattle.pg_board.specs.declared.man.Color.TheVariants.{White, Black}
-use Rattle.pg_fen.specs.declared.fault.FenFault.{FenFault}
-use Rattle.pg_fen.specs.declared.fault.FenFault.TheVariants.{Side, Rights as BadRights, EnPassant, Number}
-use Rattle.pg_position.specs.declared.rights.Rights.{Rights}
-use Rattle.pg_fen.specs.declared.details.Details.{Details}
-use Rattle.pg_fen.specs.DetailText.{side_of, is_right, count_letter, no_letter_twice, are_rights, rights_in, rights_of, passed_of, is_number, number_of, with_field, details_of}
-use Rattle.pg_fen.specs.Grammar.{IsSideText, Tells, AreRightLetters, AreRightsText, IsPassedText, IsNumberText, AreDetailTexts}
+use Rattle.pg_fen.proofs.Common.{◌≡◌, ◌≢◌, ℕ, zero, suc, ◌+◌, ◌-◌, ◌*◌, ◌≤◌, ◌<◌, Bool, true, false, cond, ◌⊎◌, inl, inr, List, [], ◌∷◌, length, Option, Some, None, refl, sym, ap, subst, ◌∙◌, arith, ◌==◌, ◌&&◌, ◌||◌, nat_lt, nat_le, codes, Result, Ok, bytes_eq, all_ascii_digits, digits_value, list_all, and_parts, and_from, nat_tests, bytes_eq-Decides, Color, White, Black, FenFault, Side, EnPassant, Number, Rights, Details, side_of, is_right, count_letter, no_letter_twice, are_rights, rights_in, rights_of, passed_of, is_number, number_of, with_field, details_of, IsSideText, Tells, AreRightLetters, AreRightsText, IsPassedText, IsNumberText, AreDetailTexts}
+use Rattle.pg_fen.specs.declared.fault.FenFault.TheVariants.{Rights as BadRights}
 
 some_length : (text : List ℕ) → text ≢ [] → nat_lt 0 (length text) ≡ true
 some_length [] ne = absurd (ne refl)

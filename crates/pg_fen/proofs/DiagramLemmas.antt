@@ -1,16 +1,5 @@
 -- What reads as a diagram is one.
-use Rattle.std.proofs.Common.{◌≡◌, ℕ, Bool, true, false, cond, List, [], ◌∷◌, refl, ap, subst}
-use Rattle.std.specs.Prelude.{not, Result, Ok, Err}
-use Rattle.pg_board.specs.declared.man.Color.{Color}
-use Rattle.pg_board.specs.declared.man.Color.TheVariants.{White, Black}
-use Rattle.pg_board.specs.Placement.{Placement}
-use Rattle.pg_position.specs.declared.state.State.{State}
-use Rattle.pg_position.specs.Position.{HasOneKing, IsPosition}
-use Rattle.pg_fen.specs.declared.fault.FenFault.{FenFault}
-use Rattle.pg_fen.specs.declared.fault.FenFault.TheVariants.{Rank, Letter, Kings, PawnRank}
-use Rattle.pg_fen.specs.DetailText.{details_of}
-use Rattle.pg_fen.specs.DiagramText.{IsDiagram, if_read, diagram_of}
-use Rattle.pg_fen.specs.PlacementText.{ranks_fit, letters_fit, placed, has_kings, has_no_edge_pawn, read_placement}
+use Rattle.pg_fen.proofs.Common.{◌≡◌, ℕ, Bool, true, false, cond, List, [], ◌∷◌, refl, ap, subst, not, Result, Ok, Err, Color, White, Black, Placement, State, HasOneKing, IsPosition, FenFault, Rank, Letter, Kings, PawnRank, details_of, IsDiagram, if_read, diagram_of, ranks_fit, letters_fit, placed, has_kings, has_no_edge_pawn, read_placement}
 use Rattle.pg_fen.proofs.CountLemmas.{has_kings_is, has_no_edge_pawn_is}
 
 -- what the tests of a placement say where it is read

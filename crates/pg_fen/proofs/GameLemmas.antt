@@ -1,34 +1,9 @@
 -- A position's text is spelled for it, so it reads as it, and no other is written so.
-use Rattle.std.proofs.Common.{◌≡◌, ℕ, ◌+◌, ◌/◌, ◌%◌, ◌≤◌, ◌<◌, ◌^◌, Bool, true, false, inl, inr, List, [], ◌∷◌, length, Option, Some, None, refl, sym, ap, ◌∙◌, arith}
-use Rattle.std.specs.Prelude.{Result, Ok, Err, ◌↔◌, ◌&&◌}
-use Rattle.std.specs.Fmt.{decimal}
-use Rattle.std.specs.List.{list_all}
-use Rattle.std.specs.Char.{is_ascii_digit}
-use Rattle.std.specs.Str.{all_ascii_digits}
-use Rattle.std.proofs.lemmas.Bool.{and_parts, and_from}
-use Rattle.std.proofs.lemmas.Bool.Decides.{nat_tests}
-use Rattle.std.proofs.lemmas.Fmt.{digits_decimal, digits_value-decimal, decimal_is_IsNumeral}
-use Rattle.std.proofs.lemmas.Str.Parse.{tells_all_ascii_digits, numerals_by_value}
-use Rattle.pg_board.specs.declared.man.Color.{Color}
-use Rattle.pg_board.specs.declared.man.Color.TheVariants.{White, Black}
-use Rattle.pg_board.specs.Squares.{rank}
-use Rattle.pg_board.specs.Placement.{Placement}
-use Rattle.pg_position.specs.declared.rights.Rights.{Rights}
-use Rattle.pg_position.specs.declared.state.State.{State}
+use Rattle.pg_fen.proofs.Common.{◌≡◌, ℕ, ◌+◌, ◌/◌, ◌%◌, ◌≤◌, ◌<◌, ◌^◌, Bool, true, false, inl, inr, List, [], ◌∷◌, length, Option, Some, None, refl, sym, ap, ◌∙◌, arith, Result, Ok, Err, ◌↔◌, ◌&&◌, decimal, list_all, is_ascii_digit, all_ascii_digits, and_parts, and_from, nat_tests, digits_decimal, digits_value-decimal, decimal_is_IsNumeral, tells_all_ascii_digits, numerals_by_value, Color, White, Black, rank, Placement, Rights, State, IsPassed, IsPosition, IsFirstBroken, FenFault, Details, GameParts, is_field_byte, fields, IsSideText, AreRightsText, IsPassedText, IsNumberText, AreDetailTexts, IsSixFieldText, IsPositionText, placement_text, read_placement, details_of, both_read, game_parts, game_of, IsGameOrBroken, side_text, rights_text, passed_text, parts_of_game, position_text}
 use Rattle.pg_position.specs.declared.refusals.BadPosition.{BadPosition}
 use Rattle.pg_position.specs.declared.refusals.BadPosition.TheVariants.{Kings, PawnRank, Rights as BadRights, EnPassant, Check}
-use Rattle.pg_position.specs.Position.{IsPassed, IsPosition, IsFirstBroken}
 use Rattle.pg_position.specs.Squares.{passed_rank}
-use Rattle.pg_fen.specs.declared.fault.FenFault.{FenFault}
-use Rattle.pg_fen.specs.declared.details.Details.{Details}
 use Rattle.pg_fen.specs.declared.games.FenGame.{FenGame}
-use Rattle.pg_fen.specs.declared.games.GameParts.{GameParts}
-use Rattle.pg_fen.specs.Fields.{is_field_byte, fields}
-use Rattle.pg_fen.specs.Grammar.{IsSideText, AreRightsText, IsPassedText, IsNumberText, AreDetailTexts, IsSixFieldText, IsPositionText}
-use Rattle.pg_fen.specs.PlacementText.{placement_text, read_placement}
-use Rattle.pg_fen.specs.DetailText.{details_of}
-use Rattle.pg_fen.specs.PositionText.{both_read, game_parts, game_of, IsGameOrBroken}
-use Rattle.pg_fen.specs.PositionWriting.{side_text, rights_text, passed_text, parts_of_game, position_text}
 use Rattle.pg_fen.proofs.DetailLemmas.{details_read, details_spelled}
 use Rattle.pg_fen.proofs.DiagramLemmas.{diagram_of_state}
 use Rattle.pg_fen.proofs.GrammarLemmas.{six_text, placement_grammar, placement_word, placement_again}

@@ -1,23 +1,6 @@
 -- A text reads as a diagram exactly where the grammar spells it so; what is written is spelled, and spells one placement.
-use Rattle.std.proofs.Common.{◌≡◌, ℕ, ◌<◌, Bool, true, false, ◌⊎◌, inl, inr, List, [], ◌∷◌, length, get_or, None, refl, sym, ap, subst, ◌∙◌, arith}
-use Rattle.std.specs.Prelude.{Result, Ok, Err, ◌↔◌, nat_lt, not}
-use Rattle.std.specs.Option.{is_some}
-use Rattle.std.specs.List.{All}
-use Rattle.std.specs.Char.{to_ascii_uppercase}
-use Rattle.std.proofs.lemmas.Bool.Decides.{nat_tests}
-use Rattle.std.proofs.lemmas.List.Sums.{AllPass-from_list_all, list_all-from_AllPass}
-use Rattle.std.proofs.lemmas.List.Splits.{slice_split_none}
-use Rattle.pg_board.specs.Placement.{Placement}
-use Rattle.pg_fen.specs.declared.fault.FenFault.{FenFault}
+use Rattle.pg_fen.proofs.Common.{◌≡◌, ℕ, ◌<◌, Bool, true, false, ◌⊎◌, inl, inr, List, [], ◌∷◌, length, get_or, None, refl, sym, ap, subst, ◌∙◌, arith, Result, Ok, Err, ◌↔◌, nat_lt, not, is_some, All, to_ascii_uppercase, nat_tests, AllPass-from_list_all, list_all-from_AllPass, slice_split_none, Placement, FenFault, man_of, kind_of_letter, is_field_gap, is_field_byte, fields, is_run, is_slash, is_letter, letters_fit, ranks_fit, placed, has_kings, has_no_edge_pawn, read_placement, placement_text, details_of, IsDiagram, if_read, diagram_of, Details, GameParts, IsPlacementText, AreDetailTexts, IsOneFieldText, IsSixFieldText, IsDiagramText}
 use Rattle.pg_fen.proofs.WordLemmas.{IsWord}
-use Rattle.pg_fen.specs.Letters.{man_of, kind_of_letter}
-use Rattle.pg_fen.specs.Fields.{is_field_gap, is_field_byte, fields}
-use Rattle.pg_fen.specs.PlacementText.{is_run, is_slash, is_letter, letters_fit, ranks_fit, placed, has_kings, has_no_edge_pawn, read_placement, placement_text}
-use Rattle.pg_fen.specs.DetailText.{details_of}
-use Rattle.pg_fen.specs.DiagramText.{IsDiagram, if_read, diagram_of}
-use Rattle.pg_fen.specs.declared.details.Details.{Details}
-use Rattle.pg_fen.specs.declared.games.GameParts.{GameParts}
-use Rattle.pg_fen.specs.Grammar.{IsPlacementText, AreDetailTexts, IsOneFieldText, IsSixFieldText, IsDiagramText}
 use Rattle.pg_fen.proofs.CountLemmas.{has_kings_is, has_no_edge_pawn_is}
 use Rattle.pg_fen.proofs.DiagramLemmas.{placed_from_read, read_from_placed, diagram_from_read, diagram_of_is}
 use Rattle.pg_fen.proofs.RankLemmas.{spelled_ranks, spelled_letters, spelled_board, placement_spelled, written_is_spelled}

@@ -1,23 +1,8 @@
 -- A text reads as a length exactly where the grammar spells it so, and what is written is spelled.
-use Rattle.std.proofs.Common.{◌≡◌, ◌≢◌, ℕ, ◌+◌, ◌*◌, ◌/◌, ◌%◌, ◌≤◌, ◌<◌, Bool, true, false, cond, ◌⊎◌, inl, inr, List, [], ◌∷◌, ◌++◌, length, Option, Some, None, refl, sym, ap, ◌∙◌, arith}
-use Rattle.std.specs.Prelude.{◌^◌, Result, Ok, Err, nat_lt, codes, ◌==◌, ◌↔◌}
-use Rattle.std.specs.Str.{bytes_eq, all_ascii_digits}
-use Rattle.std.specs.Option.{option_map}
-use Rattle.std.specs.List.{prefix_len}
-use Rattle.std.specs.Char.{is_ascii_digit}
-use Rattle.std.specs.Fmt.{decimal}
-use Rattle.std.specs.Str.Parse.{digits_value}
+use Rattle.pg_fen.proofs.Common.{◌≡◌, ◌≢◌, ℕ, ◌+◌, ◌*◌, ◌/◌, ◌%◌, ◌≤◌, ◌<◌, Bool, true, false, cond, ◌⊎◌, inl, inr, List, [], ◌∷◌, ◌++◌, length, Option, Some, None, refl, sym, ap, ◌∙◌, arith, ◌^◌, Result, Ok, Err, nat_lt, codes, ◌==◌, ◌↔◌, bytes_eq, all_ascii_digits, option_map, prefix_len, is_ascii_digit, decimal, digits_value, cases_lt, and_parts, nat_tests, take-append-drop, length-prefix_len, bytes_eq-Decides, digits_decimal, digits_value-decimal, decimal_nonempty, tells_all_ascii_digits, numerals_by_value, front_digits, after_digits, half_of, plies_of, length_or_fault, length_of, length_text, IsEnd, IsLength}
 use Rattle.std.proofs.Math.Seq.{take-append_seam, drop-append_seam}
-use Rattle.std.proofs.lemmas.Bool.{cases_lt, and_parts}
-use Rattle.std.proofs.lemmas.Bool.Decides.{nat_tests}
-use Rattle.std.proofs.lemmas.List.{take-append-drop}
-use Rattle.std.proofs.lemmas.List.Folds.{length-prefix_len}
-use Rattle.std.proofs.lemmas.Slice.Eq.{bytes_eq-Decides}
-use Rattle.std.proofs.lemmas.Fmt.{digits_decimal, digits_value-decimal, decimal_nonempty}
-use Rattle.std.proofs.lemmas.Str.Parse.{tells_all_ascii_digits, numerals_by_value}
 use Rattle.pg_fen.specs.declared.fault.LengthFault.{LengthFault}
 use Rattle.pg_fen.specs.declared.fault.LengthFault.TheVariants.{TooLong}
-use Rattle.pg_fen.specs.Lengths.{front_digits, after_digits, half_of, plies_of, length_or_fault, length_of, length_text, IsEnd, IsLength}
 use Rattle.pg_fen.proofs.Decimals.{front_is_digits}
 
 -- ---- a spelled text reads

@@ -1,3 +1,4 @@
+mod Common
 pub mod CharLemmas
 pub mod CountLemmas
 pub mod Decimals

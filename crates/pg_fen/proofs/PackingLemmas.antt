@@ -1,20 +1,6 @@
 -- Placements with the same packed bytes are one placement.
-use Rattle.std.proofs.Common.{◌≡◌, ℕ, Bool, true, false, ◌+◌, ◌*◌, ◌/◌, ◌%◌, ◌<◌, cond, eqb, List, length, get_or, Option, Some, None, refl, sym, ap, ◌∙◌, arith, inl, inr}
-use Rattle.std.specs.Prelude.{◌↔◌, ◌≢◌, ◌≤◌, slice_index, nat_eq}
+use Rattle.pg_fen.proofs.Common.{◌≡◌, ℕ, Bool, true, false, ◌+◌, ◌*◌, ◌/◌, ◌%◌, ◌<◌, cond, eqb, List, length, get_or, Option, Some, None, refl, sym, ap, ◌∙◌, arith, inl, inr, ◌↔◌, ◌≢◌, ◌≤◌, slice_index, nat_eq, Decides-eqb, slice_eq-Decides, cases_lt, get_or-map-range_with_len, fill_by_all, Color, Kind, Man, man, each_man, get-empty, get-write_same, get-write_other, Placement, get, empty, write, same_placement, cell_code, packed_byte, packed_of, number_at, cell_from}
 use Rattle.std.specs.Cmp.Lexicographic.{pointwise}
-use Rattle.std.proofs.lemmas.Bool.Decides.{Decides-eqb}
-use Rattle.std.proofs.lemmas.Slice.Eq.{slice_eq-Decides}
-use Rattle.std.proofs.lemmas.Bool.{cases_lt}
-use Rattle.std.proofs.lemmas.List.FromFn.{get_or-map-range_with_len, fill_by_all}
-use Rattle.pg_board.specs.declared.man.Color.{Color}
-use Rattle.pg_board.specs.declared.man.Kind.{Kind}
-use Rattle.pg_board.specs.declared.man.Man.{Man}
-use Rattle.pg_board.specs.Men.{man}
-use Rattle.pg_board.specs.lemmas.Kinds.{each_man}
-use Rattle.pg_board.specs.lemmas.Placements.{get-empty, get-write_same, get-write_other}
-use Rattle.pg_board.specs.Placement.{Placement, get, empty, write, same_placement}
-use Rattle.pg_fen.specs.Packing.{cell_code, packed_byte, packed_of}
-use Rattle.pg_fen.specs.inner.Cells.{number_at, cell_from}
 
 -- the square's content, back from its number
 man_back : (c : Color) (k : Kind) → cell_from (cell_code (Some (man c k))) ≡ Some (man c k)

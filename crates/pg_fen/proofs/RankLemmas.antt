@@ -1,21 +1,5 @@
 -- A text reads as a placement exactly where the grammar spells it so.
-use Rattle.std.proofs.Common.{◌≡◌, ℕ, zero, suc, ◌+◌, ◌-◌, ◌*◌, ◌/◌, ◌%◌, ◌≤◌, ◌<◌, Bool, true, false, cond, inl, inr, List, [], ◌∷◌, ◌++◌, length, take, get_or, replicate, Option, Some, None, refl, sym, ap, subst, ◌∙◌, arith, append_assoc}
-use Rattle.std.specs.Prelude.{not, ◌==◌, map}
-use Rattle.std.specs.List.{slice_split, onto_first, sum_by, list_all, flat_map, range_with_len, join_with_byte, All}
-use Rattle.std.proofs.lemmas.Bool.{and_parts, and_from}
-use Rattle.std.proofs.lemmas.Bool.Decides.{nat_tests}
-use Rattle.std.proofs.lemmas.List.{append-nil, length-append, replicate_more, ext_get_or}
-use Rattle.std.proofs.lemmas.List.Sums.{sum_by-cons}
-use Rattle.std.proofs.lemmas.List.Concat.{flat_map-append, flat_map-cons, get_or-flat_map}
-use Rattle.std.proofs.lemmas.List.Folds.{list_all-append}
-use Rattle.std.proofs.lemmas.List.Elements.{All-cons, All-nil}
-use Rattle.std.proofs.lemmas.List.Splits.{slice_split_at, slice_split_none, join_with_byte-slice_split}
-use Rattle.std.proofs.lemmas.List.FromFn.{get_or-map-range_with_len, length-map-range_with_len}
-use Rattle.pg_board.specs.declared.man.Man.{Man}
-use Rattle.pg_board.specs.Placement.{Placement, get, same_placement}
-use Rattle.pg_fen.specs.Letters.{letter_of}
-use Rattle.pg_fen.specs.PlacementText.{slash, is_slash, width_of, is_eight_wide, ranks_fit, is_letter, letters_fit, squares_of, squares, seen_at, placed, run_text, cells_text, row, row_text, placement_text}
-use Rattle.pg_fen.specs.Grammar.{IsRankText, IsPlacementText}
+use Rattle.pg_fen.proofs.Common.{◌≡◌, ℕ, zero, suc, ◌+◌, ◌-◌, ◌*◌, ◌/◌, ◌%◌, ◌≤◌, ◌<◌, Bool, true, false, cond, inl, inr, List, [], ◌∷◌, ◌++◌, length, take, get_or, replicate, Option, Some, None, refl, sym, ap, subst, ◌∙◌, arith, append_assoc, not, ◌==◌, map, slice_split, onto_first, sum_by, list_all, flat_map, range_with_len, join_with_byte, All, and_parts, and_from, nat_tests, append-nil, length-append, replicate_more, ext_get_or, sum_by-cons, flat_map-append, flat_map-cons, get_or-flat_map, list_all-append, All-cons, All-nil, slice_split_at, slice_split_none, join_with_byte-slice_split, get_or-map-range_with_len, length-map-range_with_len, Man, Placement, get, same_placement, letter_of, slash, is_slash, width_of, is_eight_wide, ranks_fit, is_letter, letters_fit, squares_of, squares, seen_at, placed, run_text, cells_text, row, row_text, placement_text, IsRankText, IsPlacementText}
 use Rattle.pg_fen.proofs.SquareLemmas.{get-placed}
 use Rattle.pg_fen.proofs.SymbolLemmas.{symbol_read, read_symbol}
 

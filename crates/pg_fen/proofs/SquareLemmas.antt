@@ -1,20 +1,5 @@
 -- A placement whose ranks and letters fit has 64 squares, and reading it byte by byte puts each man on its square.
-use Rattle.std.proofs.Common.{◌≡◌, ◌≢◌, ℕ, zero, suc, ◌+◌, ◌-◌, ◌*◌, ◌≤◌, ◌<◌, Bool, true, false, cond, ◌⊎◌, List, [], ◌∷◌, ◌++◌, length, take, get_or, replicate, Option, Some, None, refl, sym, ap, subst, ◌∙◌, inl, inr, arith}
-use Rattle.std.specs.Prelude.{◌&&◌, ◌==◌, nat_lt, nat_le}
-use Rattle.std.specs.Option.{is_some}
-use Rattle.std.specs.List.{slice_split, onto_first, sum_by, list_all}
-use Rattle.std.proofs.lemmas.Bool.{and_parts, cases_lt, cases_eq}
-use Rattle.std.proofs.lemmas.Bool.Decides.{nat_tests}
-use Rattle.std.proofs.lemmas.List.{append-nil, take_more, length-append, length-replicate, get_or_push, get_or-replicate, get_or_past, take_all}
-use Rattle.std.proofs.lemmas.List.Sums.{sum_by-cons}
-use Rattle.std.proofs.lemmas.List.Concat.{flat_map-append, flat_map-cons}
-use Rattle.std.proofs.lemmas.List.Folds.{length-flat_map-take}
-use Rattle.pg_board.specs.declared.man.Man.{Man}
-use Rattle.std.specs.Char.{to_ascii_uppercase}
-use Rattle.pg_board.specs.Placement.{Placement, get, empty, put, same_placement, get-placement_of}
-use Rattle.pg_board.specs.lemmas.Placements.{get-empty, get-put_same, get-put_other}
-use Rattle.pg_fen.specs.Letters.{man_of, kind_of_letter}
-use Rattle.pg_fen.specs.PlacementText.{is_run, is_slash, width_of, is_eight_wide, ranks_fit, is_letter, letters_fit, square_with, squares_of, squares, seen_at, placed}
+use Rattle.pg_fen.proofs.Common.{◌≡◌, ◌≢◌, ℕ, zero, suc, ◌+◌, ◌-◌, ◌*◌, ◌≤◌, ◌<◌, Bool, true, false, cond, ◌⊎◌, List, [], ◌∷◌, ◌++◌, length, take, get_or, replicate, Option, Some, None, refl, sym, ap, subst, ◌∙◌, inl, inr, arith, ◌&&◌, ◌==◌, nat_lt, nat_le, is_some, slice_split, onto_first, sum_by, list_all, and_parts, cases_lt, cases_eq, nat_tests, append-nil, take_more, length-append, length-replicate, get_or_push, get_or-replicate, get_or_past, take_all, sum_by-cons, flat_map-append, flat_map-cons, length-flat_map-take, Man, to_ascii_uppercase, Placement, get, empty, put, same_placement, get-placement_of, get-empty, get-put_same, get-put_other, man_of, kind_of_letter, is_run, is_slash, width_of, is_eight_wide, ranks_fit, is_letter, letters_fit, square_with, squares_of, squares, seen_at, placed}
 
 -- one byte more before the first part
 width_onto_first : (b : ℕ) (parts : List (List ℕ)) → sum_by (sum_by width_of) (onto_first b parts) ≡ width_of b + sum_by (sum_by width_of) parts

@@ -1,20 +1,5 @@
 -- One character of a rank: what it spells by the grammar is what reading makes of it.
-use Rattle.std.proofs.Common.{◌≡◌, ℕ, ◌+◌, ◌-◌, ◌≤◌, ◌<◌, Bool, true, false, cond, ◌⊎◌, inl, inr, List, [], ◌∷◌, length, replicate, Option, Some, None, refl, sym, ap, ◌∙◌, arith}
-use Rattle.std.specs.Prelude.{◌==◌, nat_lt}
-use Rattle.std.specs.Option.{is_some, option_map}
-use Rattle.std.specs.Char.{to_ascii_uppercase}
-use Rattle.std.proofs.lemmas.Bool.Decides.{nat_tests}
-use Rattle.std.proofs.lemmas.List.{length-replicate}
-use Rattle.pg_board.specs.declared.man.Man.{Man}
-use Rattle.pg_board.specs.declared.man.Kind.{Kind}
-use Rattle.pg_board.specs.declared.man.Kind.TheVariants.{Pawn, Knight, Bishop, Rook, Queen, King}
-use Rattle.pg_board.specs.declared.man.Color.{Color}
-use Rattle.pg_board.specs.declared.man.Color.TheVariants.{White, Black}
-use Rattle.pg_board.specs.Men.{man}
-use Rattle.pg_board.specs.lemmas.Kinds.{each_kind, each_man}
-use Rattle.pg_fen.specs.Letters.{letter_of, letter_of_kind, in_case, kind_of_letter, man_of}
-use Rattle.pg_fen.specs.PlacementText.{is_run, is_slash, width_of, is_letter, square_with, squares_of}
-use Rattle.pg_fen.specs.Grammar.{IsSymbol}
+use Rattle.pg_fen.proofs.Common.{◌≡◌, ℕ, ◌+◌, ◌-◌, ◌≤◌, ◌<◌, Bool, true, false, cond, ◌⊎◌, inl, inr, List, [], ◌∷◌, length, replicate, Option, Some, None, refl, sym, ap, ◌∙◌, arith, ◌==◌, nat_lt, is_some, option_map, to_ascii_uppercase, nat_tests, length-replicate, Man, Kind, Pawn, Knight, Bishop, Rook, Queen, King, Color, White, Black, man, each_kind, each_man, letter_of, letter_of_kind, in_case, kind_of_letter, man_of, is_run, is_slash, width_of, is_letter, square_with, squares_of, IsSymbol}
 
 -- what reading makes of a byte that spells some squares
 pub record IsRead (b : ℕ) (cells : List (Option Man)) : Type 0 where

@@ -1,11 +1,5 @@
 -- Words without gaps, one space between two of them, are the fields of a text.
-use Rattle.std.proofs.Common.{◌≡◌, ℕ, ◌<◌, Bool, true, false, List, [], ◌∷◌, ◌++◌, length, get_or, refl, arith}
-use Rattle.std.specs.Prelude.{nat_lt, not}
-use Rattle.std.specs.List.{list_all, All}
-use Rattle.std.proofs.lemmas.Bool.Decides.{nat_tests}
-use Rattle.std.proofs.lemmas.List.Sums.{AllPass-from_list_all}
-use Rattle.std.proofs.lemmas.List.Splits.{slice_split_at, slice_split_none}
-use Rattle.pg_fen.specs.Fields.{is_field_gap, is_field_byte, fields}
+use Rattle.pg_fen.proofs.Common.{◌≡◌, ℕ, ◌<◌, Bool, true, false, List, [], ◌∷◌, ◌++◌, length, get_or, refl, arith, nat_lt, not, list_all, All, nat_tests, AllPass-from_list_all, slice_split_at, slice_split_none, is_field_gap, is_field_byte, fields}
 
 -- a text that is not empty and has no gap
 pub record IsWord (text : List ℕ) : Type 0 where

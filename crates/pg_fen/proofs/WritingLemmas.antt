@@ -1,13 +1,5 @@
 -- The text of a placement grows rank by rank as it is written.
-use Rattle.std.proofs.Common.{◌≡◌, ℕ, zero, suc, ◌+◌, ◌-◌, ◌*◌, ◌≤◌, ◌<◌, List, [], ◌∷◌, ◌++◌, length, get_or, Option, None, refl, sym, ap, subst, ◌∙◌, inl, inr, arith, append_assoc}
-use Rattle.std.specs.Prelude.{map}
-use Rattle.std.specs.List.{range_with_len, join_with_byte}
-use Rattle.std.proofs.lemmas.Bool.{cases_lt}
-use Rattle.std.proofs.lemmas.List.{append-nil, length-append}
-use Rattle.std.proofs.lemmas.List.FromFn.{map-range_with_len_more, length-map-range_with_len, fill_by_all}
-use Rattle.pg_board.specs.declared.man.Man.{Man}
-use Rattle.pg_board.specs.Placement.{Placement, get}
-use Rattle.pg_fen.specs.PlacementText.{slash, row, row_text, placement_text}
+use Rattle.pg_fen.proofs.Common.{◌≡◌, ℕ, zero, suc, ◌+◌, ◌-◌, ◌*◌, ◌≤◌, ◌<◌, List, [], ◌∷◌, ◌++◌, length, get_or, Option, None, refl, sym, ap, subst, ◌∙◌, inl, inr, arith, append_assoc, map, range_with_len, join_with_byte, cases_lt, append-nil, length-append, map-range_with_len_more, length-map-range_with_len, fill_by_all, Man, Placement, get, slash, row, row_text, placement_text}
 
 pub row_all : (b : Placement) (n : ℕ) (cells : List (Option Man)) → length cells ≡ 8 → ((k : ℕ) → k < 8 → get_or cells k None ≡ get b (8 * n + k)) → cells ≡ row b n
 unfolding row

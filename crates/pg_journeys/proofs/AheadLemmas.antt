@@ -1,22 +1,7 @@
 -- A search onwards from a man: whom his steps make of him.
-use Rattle.std.proofs.Common.{◌≡◌, ◌≢◌, ℕ, ◌+◌, ◌<◌, ◌⊎◌, inl, inr, Bool, true, false, not, ◌&&◌, cond, List, [], ◌∷◌, ◌++◌, refl, sym, ap, subst, arith, ◌∙◌}
-use Rattle.pg_board.specs.Bits.{has}
-use Rattle.pg_board.specs.declared.man.Color.{Color}
-use Rattle.pg_board.specs.declared.man.Kind.{Kind}
-use Rattle.pg_board.specs.declared.man.Kind.TheVariants.{Pawn}
-use Rattle.pg_board.specs.SquareSets.{IsSetOf}
-use Rattle.pg_captures.specs.FreeSteps.{Becomes}
-use Rattle.pg_journeys.specs.Facts.{Facts}
-use Rattle.pg_journeys.specs.Journeys.{Leg, IsLeg, IsPath, may_take}
-use Rattle.pg_journeys.specs.lemmas.DecidingPaths.{weigh}
-use Rattle.pg_journeys.specs.lemmas.Turns.{leg}
-use Rattle.pg_journeys.specs.inner.Grounds.{LedTo, Pushes, Captures}
-use Rattle.pg_journeys.specs.inner.Counting.{counts}
-use Rattle.pg_journeys.specs.inner.Fronts.{OnSet, PawnsOn, IsMeeting, IsJoined}
-use Rattle.pg_journeys.specs.inner.Levels.{AheadStep, AheadWithin, FromSome}
-use Rattle.pg_journeys.specs.inner.Reached.{TakeStep, TakesOf, AreGrown}
-use Rattle.pg_journeys.specs.declared.fronts.Front.{Front}
-use Rattle.pg_journeys.proofs.FrontLemmas.{on_or_off, not_both, and_first, and_second, and_both, not_true, not_false, meeting_as, meeting_then}
+use Rattle.pg_journeys.proofs.Common.{◌≡◌, ◌≢◌, ℕ, ◌+◌, ◌<◌, ◌⊎◌, inl, inr, Bool, true, false, not, ◌&&◌, cond, List, [], ◌∷◌, ◌++◌, refl, sym, ap, subst, arith, ◌∙◌, has, Color, Kind, Pawn, IsSetOf, Becomes, Facts, Leg, IsLeg, IsPath, may_take, weigh, leg, LedTo, Pushes, Captures, counts, OnSet, PawnsOn, IsMeeting, AheadStep, AheadWithin, FromSome, TakeStep, TakesOf, AreGrown, Front, cases_Bool, not-true, not_from_false, and_from}
+use Rattle.pg_journeys.specs.inner.Fronts.{IsJoined}
+use Rattle.pg_journeys.proofs.FrontLemmas.{not_both, and_first, and_second, meeting_as, meeting_then}
 use Rattle.pg_journeys.proofs.RingLemmas.{grown_as, grown_set}
 use Rattle.pg_journeys.proofs.StepLemmas.{stays_kind, leg_into, light_step, piece_takes, push_takes_not, capture_takes, quiet_counts, taking_flips, files_or}
 
@@ -61,19 +46,19 @@ module _ (f : Facts) (c : Color) (quiet : Bool) where
           | inr (e, on, count) ↦
               (let parts : has steps t && not (has captures t) ≡ true = sym (other t l) ∙ on in
               let stepped : has steps t ≡ true = and_first (has steps t) (not (has captures t)) parts in
-              let free : has captures t ≡ false = not_true (has captures t) (and_second (has steps t) (not (has captures t)) parts) in
-              let quietly : has lands t ≡ false = elim (on_or_off (has lands t)) [ inl u ↦ absurd (not_both (has captures t) (both t ∙ and_both (has steps t) (has lands t) stepped u) free) | inr u ↦ u ] in
+              let free : has captures t ≡ false = not-true (has captures t) (and_second (has steps t) (not (has captures t)) parts) in
+              let quietly : has lands t ≡ false = elim (cases_Bool (has lands t)) [ inl u ↦ absurd (not_both (has captures t) (both t ∙ and_from (has steps t) (has lands t) stepped u) free) | inr u ↦ u ] in
               let p : LedTo (λ s t. IsLeg f c (leg k s k t)) set t = (is t l).0 stepped in
               (p.0, p.1, p.2, subst (λ (i : Kind). AheadStep f c quiet k p.0 i t w) (sym e) (p.3, count ∙ quiet_counts f c quiet (leg k p.0 k t) (may p.0 k t ∙ quietly))))
         ])
         (λ j t w l (s, ls, there, (step, count)).
         (let same : j ≡ k = stays_kind c k j t ne step.free.3 in
         let stepped : has steps t ≡ true = (is t l).1 (s, ls, there, subst (λ (i : Kind). IsLeg f c (leg k s i t)) same step) in
-        elim (on_or_off (has lands t)) [
-          | inl u ↦ inl (same, both t ∙ and_both (has steps t) (has lands t) stepped u, count ∙ sym (taking_flips f c quiet (leg k s j t) (may s j t ∙ u)))
+        elim (cases_Bool (has lands t)) [
+          | inl u ↦ inl (same, both t ∙ and_from (has steps t) (has lands t) stepped u, count ∙ sym (taking_flips f c quiet (leg k s j t) (may s j t ∙ u)))
           | inr u ↦
-              (let free : has captures t ≡ false = elim (on_or_off (has captures t)) [ inl v ↦ absurd (not_both (has lands t) (captured t v).1 u) | inr v ↦ v ] in
-              inr (same, other t l ∙ and_both (has steps t) (not (has captures t)) stepped (not_false (has captures t) free), count ∙ sym (quiet_counts f c quiet (leg k s j t) (may s j t ∙ u))))
+              (let free : has captures t ≡ false = elim (cases_Bool (has captures t)) [ inl v ↦ absurd (not_both (has lands t) (captured t v).1 u) | inr v ↦ v ] in
+              inr (same, other t l ∙ and_from (has steps t) (not (has captures t)) stepped (not_from_false (has captures t) free), count ∙ sym (quiet_counts f c quiet (leg k s j t) (may s j t ∙ u))))
         ]))
         (meeting_then (OnSet k captures (not quiet)) (OnSet k rest true) old mid new m n)
 
@@ -85,7 +70,7 @@ module _ (f : Facts) (c : Color) (quiet : Bool) where
         (p.0, p.1, p.2, subst (λ (i : Kind). TakeStep f c k p.0 i t) (sym e) (p.3, may p.0 k t ∙ parts.1))))
         (λ j t l (s, ls, there, (step, take)).
         (let same : j ≡ k = stays_kind c k j t ne step.free.3 in
-        (same, both t ∙ and_both (has steps t) (has lands t) ((is t l).1 (s, ls, there, subst (λ (i : Kind). IsLeg f c (leg k s i t)) same step)) (sym (may s j t) ∙ take))))
+        (same, both t ∙ and_from (has steps t) (has lands t) ((is t l).1 (s, ls, there, subst (λ (i : Kind). IsLeg f c (leg k s i t)) same step)) (sym (may s j t) ∙ take))))
         (grown_set k captures old new m)
 
   pub pawns_grow_ahead : (k : Kind) (set captured : ℕ) (old new : List ℕ) → k ≡ Pawn → IsSetOf captured (LedTo (Captures f c) set) → AreGrown (λ j t. (has captured t ≡ true) × Becomes c Pawn t j) old new → AreGrown (TakesOf (TakeStep f c k) set) old new

@@ -1,21 +1,5 @@
 -- A search onwards from a man, count by count: what its beginning, turns and end say of his paths.
-use Rattle.std.proofs.Common.{◌≡◌, ◌≢◌, ℕ, ◌+◌, ◌-◌, ◌<◌, ◌≤◌, ◌↔◌, inl, inr, Bool, true, false, List, [], ◌∷◌, get_or, refl, sym, ap, subst, arith, ◌∙◌}
-use Rattle.pg_board.specs.Bits.{has, has-none}
-use Rattle.pg_board.specs.declared.man.Color.{Color}
-use Rattle.pg_board.specs.declared.man.Kind.{Kind}
-use Rattle.pg_board.specs.SquareSets.{IsSetOf}
-use Rattle.pg_journeys.specs.Facts.{Facts}
-use Rattle.pg_journeys.specs.Journeys.{Leg, IsPath}
-use Rattle.pg_journeys.specs.lemmas.DecidingPaths.{weigh}
-use Rattle.pg_journeys.specs.inner.Counts.{of_kind}
-use Rattle.pg_journeys.specs.inner.Counting.{counts}
-use Rattle.pg_journeys.specs.inner.Fronts.{is_met, is_due, IsMeeting, AreTakenDue, HasAdvanced, NoneDue}
-use Rattle.pg_journeys.specs.inner.Levels.{AheadStart, AheadStep, AheadWithin, FromSome}
-use Rattle.pg_journeys.specs.inner.Reached.{TakeStep, TakesOf, AreGrown, TakesAfter}
-use Rattle.pg_journeys.specs.inner.Searches.{AreDueMet, IsAheadBefore, IsAheadAmid, AreTakenBefore, AreTakenAmid}
-use Rattle.pg_journeys.specs.inner.Rings.{AreWithin}
-use Rattle.pg_journeys.specs.declared.fronts.Front.{Front}
-use Rattle.pg_journeys.specs.declared.rings.Rings.{Rings}
+use Rattle.pg_journeys.proofs.Common.{◌≡◌, ◌≢◌, ℕ, ◌+◌, ◌-◌, ◌<◌, ◌≤◌, ◌↔◌, inl, inr, Bool, true, false, List, [], ◌∷◌, get_or, refl, sym, ap, subst, arith, ◌∙◌, has, has-none, Color, Kind, IsSetOf, Facts, Leg, IsPath, weigh, of_kind, counts, is_met, is_due, IsMeeting, AreTakenDue, HasAdvanced, NoneDue, AheadStart, AheadStep, AheadWithin, FromSome, TakeStep, TakesOf, AreGrown, TakesAfter, AreDueMet, IsAheadBefore, IsAheadAmid, AreTakenBefore, AreTakenAmid, AreWithin, Front, Rings}
 use Rattle.pg_journeys.proofs.FrontLemmas.{not_both, kind_or, moved}
 use Rattle.pg_journeys.proofs.SearchLemmas.{first_before, due_advanced, amid_turn, amid_first, amid_last, ring_is, idle_is, idle_within, met_or_due}
 use Rattle.pg_journeys.proofs.RingLemmas.{AreKept, kept_more, stands_more, after_more}

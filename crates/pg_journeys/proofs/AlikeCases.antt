@@ -1,24 +1,6 @@
 -- Positions that are the same for a colour show it the same. Leads to the contracts of `recall` and `shown_in`.
-use Rattle.std.proofs.Common.{◌≡◌, ℕ, ◌+◌, ◌<◌, ◌≤◌, inl, inr, Option, Some, None, sym, subst, arith, ◌∙◌, List, length}
-use Rattle.pg_board.specs.declared.man.Color.{Color}
-use Rattle.pg_board.specs.declared.man.Kind.{Kind}
-use Rattle.pg_board.specs.Tally.{total}
-use Rattle.pg_board.specs.Placement.{Placement}
-use Rattle.pg_position.specs.declared.rights.Wing.{Wing}
-use Rattle.pg_position.specs.declared.state.State.{State}
-use Rattle.pg_position.specs.Position.{Stands}
-use Rattle.pg_captures.specs.Owed.{plies_left, victims}
-use Rattle.pg_travel.specs.Origins.{charge, counted}
-use Rattle.pg_journeys.specs.Facts.{Facts}
-use Rattle.pg_journeys.specs.Known.{known}
-use Rattle.pg_journeys.specs.Journeys.{Leg, quiet, Fate, Arrives, Falls, Meets, IsWayUnder, Journeys}
-use Rattle.pg_journeys.specs.Plans.{Measure, Moves, QuietMoves, IsPaid, IsAlive}
-use Rattle.pg_journeys.specs.Narrowing.{StaysIn, PlansToTake, PlansToFall}
-use Rattle.pg_journeys.specs.inner.Showing.{IsDead, Shows}
-use Rattle.pg_journeys.specs.inner.Remembering.{AreSameFor, AreAlike, IsAnswer}
+use Rattle.pg_journeys.proofs.Common.{◌≡◌, ℕ, ◌+◌, ◌<◌, ◌≤◌, inl, inr, Option, Some, None, sym, subst, arith, ◌∙◌, List, length, Color, Kind, total, Placement, Wing, State, Stands, plies_left, victims, charge, counted, Facts, known, Leg, quiet, Fate, Arrives, Falls, Meets, IsWayUnder, Journeys, Measure, Moves, QuietMoves, IsPaid, IsAlive, StaysIn, PlansToTake, PlansToFall, IsDead, Shows, AreSameFor, AreAlike, IsAnswer, Case, Shown}
 use Rattle.pg_journeys.specs.declared.facts.Facts.{Facts as FactSets}
-use Rattle.pg_journeys.specs.declared.memory.Case.{Case}
-use Rattle.pg_journeys.specs.declared.shown.Shown.{Shown}
 
 -- what is the same one way is the same the other way
 pub turned : (f : Facts) (c : Color) (p q : State) (k n : ℕ) → AreSameFor f c p q k n → AreSameFor f c q p n k

@@ -1,19 +1,6 @@
 -- A search backwards from goals: who steps to a man.
-use Rattle.std.proofs.Common.{◌≡◌, ◌≢◌, ℕ, ◌+◌, ◌<◌, ◌⊎◌, inl, inr, Bool, true, false, not, ◌&&◌, cond, List, ◌∷◌, refl, sym, subst, arith, ◌∙◌}
-use Rattle.pg_board.specs.Bits.{has}
-use Rattle.pg_board.specs.declared.man.Color.{Color}
-use Rattle.pg_board.specs.declared.man.Kind.{Kind}
-use Rattle.pg_board.specs.declared.man.Kind.TheVariants.{Pawn}
-use Rattle.pg_board.specs.SquareSets.{IsSetOf, HasNoneFrom}
-use Rattle.pg_captures.specs.FreeSteps.{Becomes}
-use Rattle.pg_journeys.specs.Facts.{Facts}
-use Rattle.pg_journeys.specs.Journeys.{IsLeg}
-use Rattle.pg_journeys.specs.lemmas.Turns.{leg}
-use Rattle.pg_journeys.specs.inner.Grounds.{LedTo, Pushes, Captures}
-use Rattle.pg_journeys.specs.inner.Fronts.{OnSet, IsMeeting}
-use Rattle.pg_journeys.specs.inner.Levels.{BackStep, BackWithin, FromSome}
-use Rattle.pg_journeys.specs.declared.fronts.Front.{Front}
-use Rattle.pg_journeys.proofs.FrontLemmas.{on_or_off, not_both, and_first, and_second, and_both, not_true, not_false, kind_or, meeting_none, meeting_as, meeting_then}
+use Rattle.pg_journeys.proofs.Common.{◌≡◌, ◌≢◌, ℕ, ◌+◌, ◌<◌, ◌⊎◌, inl, inr, Bool, true, false, not, ◌&&◌, cond, List, ◌∷◌, refl, sym, subst, arith, ◌∙◌, has, Color, Kind, Pawn, IsSetOf, HasNoneFrom, Becomes, Facts, IsLeg, leg, LedTo, Pushes, Captures, OnSet, IsMeeting, BackStep, BackWithin, FromSome, Front, cases_Bool, not-true, not_from_false, and_from}
+use Rattle.pg_journeys.proofs.FrontLemmas.{not_both, and_first, and_second, kind_or, meeting_none, meeting_as, meeting_then}
 use Rattle.pg_journeys.proofs.StepLemmas.{leg_turn, stays_kind, leg_into, light_step, piece_counts, push_takes_not, capture_takes, quiet_counts, taking_flips, files_or, lands_count, other_count}
 
 module _ (f : Facts) (c : Color) (quiet : Bool) where
@@ -41,19 +28,19 @@ module _ (f : Facts) (c : Color) (quiet : Bool) where
             (let p : LedTo (λ s t. IsLeg f c (leg k s k t)) rest t = (are t l).0 on in
             let there : has set p.0 && not (has captured p.0) ≡ true = sym (other p.0 p.1) ∙ p.2 in
             let in_set : has set p.0 ≡ true = and_first (has set p.0) (not (has captured p.0)) there in
-            let out : has captured p.0 ≡ false = not_true (has captured p.0) (and_second (has set p.0) (not (has captured p.0)) there) in
-            let off : has lands p.0 ≡ false = elim (on_or_off (has lands p.0)) [ inl u ↦ absurd (not_both (has captured p.0) (both p.0 ∙ and_both (has set p.0) (has lands p.0) in_set u) out) | inr u ↦ u ] in
+            let out : has captured p.0 ≡ false = not-true (has captured p.0) (and_second (has set p.0) (not (has captured p.0)) there) in
+            let off : has lands p.0 ≡ false = elim (cases_Bool (has lands p.0)) [ inl u ↦ absurd (not_both (has captured p.0) (both p.0 ∙ and_from (has set p.0) (has lands p.0) in_set u) out) | inr u ↦ u ] in
             let back = from_piece k j p.0 t w ne e p.3 (count ∙ other_count quiet (f.lands c p.0) (land p.0 ∙ off)) in
             (back.0, (p.0, p.1, in_set, back.1)))
       ])
       (λ j t w l (nj, (s, ls, on, step)).
       (let same : k ≡ j = stays_kind c j k s nj step.0.free.3 in
       let back = to_piece k j s t w ne (sym same) step in
-      elim (on_or_off (has lands s)) [
-        | inl u ↦ inl (sym same, (is t l).1 (s, ls, both s ∙ and_both (has set s) (has lands s) on u, back.0), back.1 ∙ sym (lands_count quiet (f.lands c s) (land s ∙ u)))
+      elim (cases_Bool (has lands s)) [
+        | inl u ↦ inl (sym same, (is t l).1 (s, ls, both s ∙ and_from (has set s) (has lands s) on u, back.0), back.1 ∙ sym (lands_count quiet (f.lands c s) (land s ∙ u)))
         | inr u ↦
-            (let out : has captured s ≡ false = elim (on_or_off (has captured s)) [ inl v ↦ absurd (not_both (has lands s) (and_second (has set s) (has lands s) (sym (both s) ∙ v)) u) | inr v ↦ v ] in
-            inr (sym same, (are t l).1 (s, ls, other s ls ∙ and_both (has set s) (not (has captured s)) on (not_false (has captured s) out), back.0), back.1 ∙ sym (other_count quiet (f.lands c s) (land s ∙ u))))
+            (let out : has captured s ≡ false = elim (cases_Bool (has captured s)) [ inl v ↦ absurd (not_both (has lands s) (and_second (has set s) (has lands s) (sym (both s) ∙ v)) u) | inr v ↦ v ] in
+            inr (sym same, (are t l).1 (s, ls, other s ls ∙ and_from (has set s) (not (has captured s)) on (not_from_false (has captured s) out), back.0), back.1 ∙ sym (other_count quiet (f.lands c s) (land s ∙ u))))
       ]))
       (meeting_then (OnSet k before (not quiet)) (OnSet k others true) old mid new m n)
 

@@ -1,19 +1,5 @@
 -- A search backwards from goals, count by count: what its beginning, turns and end say of paths to the goals.
-use Rattle.std.proofs.Common.{◌≡◌, ℕ, ◌+◌, ◌-◌, ◌<◌, ◌≤◌, ◌↔◌, Bool, true, false, List, [], ◌∷◌, get_or, refl, sym, ap, subst, arith, ◌∙◌}
-use Rattle.pg_board.specs.Bits.{has}
-use Rattle.pg_board.specs.declared.man.Color.{Color}
-use Rattle.pg_board.specs.declared.man.Kind.{Kind}
-use Rattle.pg_journeys.specs.Facts.{Facts}
-use Rattle.pg_journeys.specs.Journeys.{Leg, IsPath}
-use Rattle.pg_journeys.specs.lemmas.DecidingPaths.{weigh}
-use Rattle.pg_journeys.specs.inner.Counts.{of_kind}
-use Rattle.pg_journeys.specs.inner.Counting.{counts}
-use Rattle.pg_journeys.specs.inner.Fronts.{is_met, IsMeeting, AreTakenDue, HasAdvanced, NoneDue}
-use Rattle.pg_journeys.specs.inner.Levels.{BackStart, BackStep, BackWithin, FromSome}
-use Rattle.pg_journeys.specs.inner.Searches.{AreDueMet, IsBackBefore, IsBackAmid}
-use Rattle.pg_journeys.specs.inner.Rings.{AreWithin}
-use Rattle.pg_journeys.specs.declared.fronts.Front.{Front}
-use Rattle.pg_journeys.specs.declared.rings.Rings.{Rings}
+use Rattle.pg_journeys.proofs.Common.{◌≡◌, ℕ, ◌+◌, ◌-◌, ◌<◌, ◌≤◌, ◌↔◌, Bool, true, false, List, [], ◌∷◌, get_or, refl, sym, ap, subst, arith, ◌∙◌, has, Color, Kind, Facts, Leg, IsPath, weigh, of_kind, counts, is_met, IsMeeting, AreTakenDue, HasAdvanced, NoneDue, BackStart, BackStep, BackWithin, FromSome, AreDueMet, IsBackBefore, IsBackAmid, AreWithin, Front, Rings}
 use Rattle.pg_journeys.proofs.FrontLemmas.{moved}
 use Rattle.pg_journeys.proofs.SearchLemmas.{first_before, due_advanced, amid_turn, amid_first, amid_last, ring_is, idle_is, idle_within}
 use Rattle.pg_journeys.proofs.RingLemmas.{AreKept, kept_more, back_more}

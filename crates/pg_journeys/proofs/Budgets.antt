@@ -1,23 +1,7 @@
 -- What paths may count, and what is shown of a side as said of its position. Leads to the contracts of `budgets_of`, `shown_of` and `is_dead`.
-use Rattle.std.proofs.Common.{◌≡◌, ℕ, ◌+◌, ◌<◌, ◌≤◌, inl, inr, Option, sym, subst, arith, ◌∙◌, MatchOption}
-use Rattle.std.proofs.lemmas.Bool.{cases_lt}
-use Rattle.pg_board.specs.declared.man.Color.{Color}
-use Rattle.pg_board.specs.Tally.{total}
-use Rattle.pg_board.specs.Placement.{Placement}
-use Rattle.pg_position.specs.declared.state.State.{State}
-use Rattle.pg_captures.specs.Counting.{men, any_man}
-use Rattle.pg_captures.specs.Owed.{plies_left, victims}
-use Rattle.pg_travel.specs.Origins.{charge}
-use Rattle.pg_journeys.specs.Facts.{Facts}
-use Rattle.pg_journeys.specs.Journeys.{Journeys, quiet}
-use Rattle.pg_journeys.specs.Known.{known}
-use Rattle.pg_journeys.specs.Plans.{Moves, QuietMoves, IsPaid}
-use Rattle.pg_journeys.specs.inner.Sides.{facts_of}
-use Rattle.pg_journeys.specs.inner.Showing.{IsBudget, AreBudgets, IsDead, IsShownBy, Shows}
+use Rattle.pg_journeys.proofs.Common.{◌≡◌, ℕ, ◌+◌, ◌<◌, ◌≤◌, inl, inr, Option, sym, subst, arith, ◌∙◌, MatchOption, cases_lt, Color, total, Placement, State, men, any_man, plies_left, victims, charge, Facts, Journeys, quiet, known, Moves, QuietMoves, IsPaid, facts_of, IsBudget, AreBudgets, IsDead, IsShownBy, Shows, Side, Shown}
 use Rattle.pg_journeys.specs.declared.course.Course.{Course}
 use Rattle.pg_journeys.specs.declared.facts.Facts.{Facts as FactSets}
-use Rattle.pg_journeys.specs.declared.side.Side.{Side}
-use Rattle.pg_journeys.specs.declared.shown.Shown.{Shown}
 
 -- who owes more captures than he has plies has no way alive
 pub owes_too_much : (f : Facts) (d : Placement) (p : State) (k : ℕ) (c : Color) → plies_left p.side c k + victims c d < victims c p.board → IsDead f d p k c

@@ -1,24 +1,7 @@
 -- Who does not change stays. Leads to the contract of `way_shown`.
-use Rattle.std.proofs.Common.{◌≡◌, ◌≢◌, ℕ, ◌<◌, ◌≤◌, ◌⊎◌, ◌↔◌, inl, inr, Option, Bool, true, false, refl, sym, ap, subst, arith, ◌∙◌, List, [], ◌∷◌, get_or}
-use Rattle.pg_board.specs.Bits.{has}
-use Rattle.pg_board.specs.declared.man.Kind.{Kind}
-use Rattle.pg_board.specs.Placement.{Placement}
-use Rattle.pg_board.specs.SquareSets.{IsSetOf}
-use Rattle.pg_board.specs.lemmas.Decisions.{dec_and, dec_equal, dec_less, dec_true, dec_some_below}
-use Rattle.pg_position.specs.declared.rights.Wing.{Wing}
-use Rattle.pg_position.specs.Position.{Stands}
-use Rattle.pg_travel.specs.Origins.{counted}
-use Rattle.pg_journeys.specs.Journeys.{Leg, Fate, Arrives, Falls, Meets, IsPath}
-use Rattle.pg_journeys.specs.Plans.{Measure, Moves, QuietMoves}
-use Rattle.pg_journeys.specs.Narrowing.{RestsOn, NeverFalls, StaysIn}
-use Rattle.pg_journeys.specs.inner.Sides.{facts_of, square_at, kind_at, IsSide, InEnd}
-use Rattle.pg_journeys.specs.inner.Deeds.{Changes, AreDeeds}
-use Rattle.pg_journeys.specs.inner.Showing.{is_quiet, IsBudget, AreBudgets, MayChange, TakesIn, FallsIn, IsWithFound, ShowsWay, lands_by, falls_by}
+use Rattle.pg_journeys.proofs.Common.{◌≡◌, ◌≢◌, ℕ, ◌<◌, ◌≤◌, ◌⊎◌, ◌↔◌, inl, inr, Option, Bool, true, false, refl, sym, ap, subst, arith, ◌∙◌, List, [], ◌∷◌, get_or, has, Kind, Placement, IsSetOf, dec_and, dec_equal, dec_less, dec_true, dec_some_below, Wing, Stands, counted, Leg, Fate, Arrives, Falls, Meets, IsPath, Measure, Moves, QuietMoves, RestsOn, NeverFalls, StaysIn, facts_of, square_at, kind_at, IsSide, InEnd, Changes, AreDeeds, is_quiet, IsBudget, AreBudgets, MayChange, TakesIn, FallsIn, IsWithFound, ShowsWay, lands_by, falls_by, Side, Deeds, Shown, false_from_ne_true}
 use Rattle.pg_journeys.specs.declared.men.Men.{Men}
-use Rattle.pg_journeys.specs.declared.side.Side.{Side}
-use Rattle.pg_journeys.specs.declared.narrowing.Deeds.{Deeds}
 use Rattle.pg_journeys.specs.declared.narrowing.Found.{Found}
-use Rattle.pg_journeys.specs.declared.shown.Shown.{Shown}
 use Rattle.pg_journeys.proofs.Paying.{paid_by_plies, paid_by_counts, takes_of, lands_of, falls_of, falls_on}
 
 dec_none : (ls : List Leg) → Dec (ls ≡ [])
@@ -160,10 +143,6 @@ dec_like b P h = elim (dec_true b) [
   | no f ↦ no (λ y. f (h.1 y))
 ]
 
-not_true : (b : Bool) → ¬ (b ≡ true) → b ≡ false
-not_true true h = absurd (h refl)
-not_true false h = refl
-
 false_not : (b : Bool) → b ≡ false → ¬ (b ≡ true)
 false_not true e h = cc
 false_not false e h = cc
@@ -236,5 +215,5 @@ module _ (d : Placement) (x : Side) (k : ℕ) (side : IsSide d x) (way : Option 
       stays j s l st = (
         λ h. (let at : (i : ℕ) × (i < x.men.count) × (square_at x.men i ≡ s) = side.men.listing.listed j s l st in
             stays_at s (λ c. false_not (has changed s) h ((set s l).1 c)) at.0 at.1 at.2),
-        λ h. not_true (has changed s) (λ e. not_changed s h ((set s l).0 e)),
+        λ h. false_from_ne_true (has changed s) (λ e. not_changed s h ((set s l).0 e)),
       )

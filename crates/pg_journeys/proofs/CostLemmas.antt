@@ -1,35 +1,8 @@
 -- What fates cost: the rows of costs, what they say of plans, and when a plan is paid for. Leads to the contracts of `row`,
 -- `costs_of`, `pays` and `is_paid`.
-use Rattle.std.proofs.Common.{◌≡◌, ◌≢◌, ◌↔◌, ℕ, ◌+◌, ◌<◌, ◌≤◌, inl, inr, IsTrue, Option, Some, None, Bool, true, false, List, [], length, get_or, set, leb, refl, sym, subst, ◌∙◌, arith}
-use Rattle.std.proofs.lemmas.Bool.{cases_lt}
-use Rattle.std.proofs.lemmas.Bool.Decides.{eqb_tells, leb_tells}
-use Rattle.std.proofs.lemmas.List.{get_or-set_same, get_or-set_other}
-use Rattle.pg_board.specs.declared.man.Color.{Color}
-use Rattle.pg_board.specs.declared.man.Kind.{Kind}
-use Rattle.pg_board.specs.declared.man.Kind.TheVariants.{King}
-use Rattle.pg_board.specs.Tally.{total}
-use Rattle.pg_board.specs.Placement.{Placement}
-use Rattle.pg_board.specs.lemmas.Decisions.{dec_kind}
-use Rattle.pg_position.specs.declared.rights.Wing.{Wing}
-use Rattle.pg_position.specs.Position.{Stands}
-use Rattle.pg_captures.specs.lemmas.BoardLemmas.{same_kind}
-use Rattle.pg_travel.specs.Origins.{charge, counted}
-use Rattle.pg_assignments.specs.declared.costs.Costs.{Costs}
+use Rattle.pg_journeys.proofs.Common.{◌≡◌, ◌≢◌, ◌↔◌, ℕ, ◌+◌, ◌<◌, ◌≤◌, inl, inr, IsTrue, Option, Some, None, Bool, true, false, List, [], length, get_or, set, leb, refl, sym, subst, ◌∙◌, arith, cases_lt, eqb_tells, leb_tells, get_or-set_same, get_or-set_other, Color, Kind, King, total, Placement, dec_kind, Wing, Stands, same_kind, charge, counted, Costs, cost, Below, sum_of, IsTotal, IsLeastTotal, none_holds, some_holds, some_least, Facts, Leg, Fate, Arrives, Falls, IsPath, Meets, AreCosts, InColumn, weigh, plans_are_totals, counts, facts_of, square_at, kind_at, IsSide, EndWithin, JourneysOf, IsPaidBy, IsCount, IsCountTo, IsFall, IsCostRow, AreCostRows, AreCostsOf, HasTotalTo, runner_of, walker_of, Side, Walker, Runner}
 use Rattle.pg_assignments.specs.declared.totals.LeastTotals.{LeastTotals}
 use Rattle.pg_assignments.specs.Totals.{IsBeyond, AreTotals}
-use Rattle.pg_assignments.specs.Assignments.{cost, Below, sum_of, IsTotal, IsLeastTotal}
-use Rattle.pg_assignments.proofs.LeastLemmas.{none_holds, some_holds, some_least}
-use Rattle.pg_journeys.specs.Facts.{Facts}
-use Rattle.pg_journeys.specs.Journeys.{Leg, Fate, Arrives, Falls, IsPath, Meets}
-use Rattle.pg_journeys.specs.PlanCosts.{AreCosts, InColumn}
-use Rattle.pg_journeys.specs.lemmas.DecidingPaths.{weigh}
-use Rattle.pg_journeys.specs.lemmas.PlanTotals.{plans_are_totals}
-use Rattle.pg_journeys.specs.inner.Counting.{counts}
-use Rattle.pg_journeys.specs.inner.Sides.{facts_of, square_at, kind_at, IsSide, EndWithin, JourneysOf, IsPaidBy}
-use Rattle.pg_journeys.specs.inner.Costing.{IsCount, IsCountTo, IsFall, IsCostRow, AreCostRows, AreCostsOf, HasTotalTo, runner_of, walker_of}
-use Rattle.pg_journeys.specs.declared.side.Side.{Side}
-use Rattle.pg_journeys.specs.declared.plans.Walker.{Walker}
-use Rattle.pg_journeys.specs.declared.rings.Runner.{Runner}
 
 -- ---- rows
 pub rows_next : (x : Side) (quiet : Bool) (way : Option Wing) (most : ℕ) (rows : List (List ℕ)) (row : List ℕ) (i m : ℕ) → m ≡ i + 1 → i < length rows →

@@ -1,18 +1,6 @@
 -- Whether a colour has a way alive. Leads to the contracts of `some_alive`, `is_dead` and `any_dead`.
-use Rattle.std.proofs.Common.{◌≡◌, ℕ, ◌↔◌, not, Option, Some, None, Bool, true, false, refl, subst, IsTrue}
-use Rattle.pg_board.specs.declared.man.Color.{Color}
-use Rattle.pg_board.specs.declared.man.Color.TheVariants.{White, Black}
-use Rattle.pg_board.specs.Placement.{Placement}
-use Rattle.pg_position.specs.declared.rights.Wing.{Wing}
-use Rattle.pg_position.specs.declared.rights.Wing.TheVariants.{KingSide, QueenSide}
-use Rattle.pg_position.specs.declared.state.State.{State}
-use Rattle.pg_journeys.specs.Facts.{Facts}
-use Rattle.pg_journeys.specs.Known.{known}
-use Rattle.pg_journeys.specs.Plans.{IsAlive}
-use Rattle.pg_journeys.specs.inner.Sides.{facts_of, IsSide}
-use Rattle.pg_journeys.specs.inner.Showing.{AreBudgets, IsDead}
+use Rattle.pg_journeys.proofs.Common.{◌≡◌, ℕ, ◌↔◌, not, Option, Some, None, Bool, true, false, refl, subst, IsTrue, Color, White, Black, Placement, Wing, KingSide, QueenSide, State, Facts, known, IsAlive, facts_of, IsSide, AreBudgets, IsDead, Side}
 use Rattle.pg_journeys.specs.declared.facts.Facts.{Facts as FactSets}
-use Rattle.pg_journeys.specs.declared.side.Side.{Side}
 
 -- whether some way of a colour is alive
 abbrev pub TellsAlive : Facts → Placement → State → ℕ → Color → Bool → Type 0

@@ -1,23 +1,8 @@
 -- Whether paths lead to an end is decided, so rings that show it in truth alone show it. Leads to the contracts of all that read
 -- rings from a value's type.
-use Rattle.std.proofs.Common.{◌≡◌, ℕ, ◌+◌, ◌<◌, ◌≤◌, Bool, true, false, refl, List, [], ◌∷◌, arith}
-use Rattle.std.proofs.Math.Logic.{∥∥₁_elim, ∥∥₁_map}
+use Rattle.pg_journeys.proofs.Common.{◌≡◌, ℕ, ◌+◌, ◌<◌, ◌≤◌, Bool, true, false, refl, List, [], ◌∷◌, arith, ∥∥₁_elim, ∥∥₁_map, Color, Kind, other, dec_along, dec_and, dec_and3, dec_equal, dec_kinds, dec_less, dec_or, dec_some_below, dec_true, Facts, Leg, IsPath, some_leg, dec_leg, weigh, dec_path, leg, counts, HasSteps, facts_of, kind_at, square_at, AreAims, EndWithin, FallWithin, Rings, Side}
 use Rattle.std.specs.Coded.{le_prop}
-use Rattle.pg_board.specs.declared.man.Color.{Color}
-use Rattle.pg_board.specs.declared.man.Kind.{Kind}
-use Rattle.pg_board.specs.Men.{other}
-use Rattle.pg_board.specs.lemmas.Decisions.{dec_along, dec_and, dec_and3, dec_equal, dec_kinds, dec_less, dec_or, dec_some_below, dec_true}
-use Rattle.pg_journeys.specs.Facts.{Facts}
-use Rattle.pg_journeys.specs.Journeys.{Leg, IsPath, some_leg}
-use Rattle.pg_journeys.specs.lemmas.Deciding.{dec_leg}
 use Rattle.pg_journeys.specs.lemmas.DecidingFacts.{dec_then}
-use Rattle.pg_journeys.specs.lemmas.DecidingPaths.{weigh, dec_path}
-use Rattle.pg_journeys.specs.lemmas.Turns.{leg}
-use Rattle.pg_journeys.specs.inner.Counting.{counts}
-use Rattle.pg_journeys.specs.inner.Grounds.{HasSteps}
-use Rattle.pg_journeys.specs.inner.Sides.{facts_of, kind_at, square_at, AreAims, EndWithin, FallWithin}
-use Rattle.pg_journeys.specs.declared.rings.Rings.{Rings}
-use Rattle.pg_journeys.specs.declared.side.Side.{Side}
 use Rattle.pg_journeys.proofs.SideLemmas.{decided, goals_on}
 
 -- ---- a path that weighs at most n

@@ -1,28 +1,8 @@
 -- Within how many counts paths lead to an end. Leads to the contracts of `end_goals`, `fill_aims`, `aim_within`, `comes_within` and
 -- `count_to`.
-use Rattle.std.proofs.Common.{◌≡◌, ◌≢◌, ◌↔◌, ℕ, ◌+◌, ◌-◌, ◌<◌, ◌≤◌, inl, inr, IsTrue, Bool, true, false, List, length, set, replicate, refl, sym, ap, subst, ◌∙◌, arith}
-use Rattle.std.proofs.lemmas.Bool.{cases_lt}
-use Rattle.std.proofs.lemmas.Bool.Decides.{eqb_tells}
-use Rattle.std.proofs.lemmas.List.{get_or-set_same, get_or-set_other}
-use Rattle.pg_board.specs.Bits.{has, has-none}
-use Rattle.pg_board.specs.declared.man.Color.{Color}
-use Rattle.pg_board.specs.declared.man.Kind.{Kind}
-use Rattle.pg_board.specs.declared.man.Kind.TheVariants.{Pawn, Knight, Bishop, Rook, Queen, King}
-use Rattle.pg_board.specs.Men.{other}
-use Rattle.pg_board.specs.SquareSets.{IsSetOf}
-use Rattle.pg_board.specs.lemmas.Decisions.{dec_kind, dec_less}
-use Rattle.pg_journeys.specs.Known.{known, landing}
-use Rattle.pg_journeys.specs.inner.Counts.{of_kind}
-use Rattle.pg_journeys.specs.inner.Levels.{BackWithin}
-use Rattle.pg_journeys.specs.inner.Rings.{AreRings, AreWithin}
-use Rattle.pg_journeys.specs.inner.Sides.{facts_of, square_at, kind_at, IsLike, IsEnd, EndWithin, AreAims, aim_at}
-use Rattle.pg_journeys.specs.inner.Costing.{InRing, IsCount}
+use Rattle.pg_journeys.proofs.Common.{◌≡◌, ◌≢◌, ◌↔◌, ℕ, ◌+◌, ◌-◌, ◌<◌, ◌≤◌, inl, inr, IsTrue, Bool, true, false, List, length, set, replicate, refl, sym, ap, subst, ◌∙◌, arith, cases_lt, eqb_tells, get_or-set_same, get_or-set_other, has, has-none, Color, Kind, Pawn, Knight, Bishop, Rook, Queen, King, other, IsSetOf, dec_kind, dec_less, known, landing, of_kind, BackWithin, AreRings, AreWithin, facts_of, square_at, kind_at, IsLike, IsEnd, EndWithin, AreAims, aim_at, InRing, IsCount, Ground, Side, Rings, Runner}
 use Rattle.pg_journeys.specs.declared.facts.Facts.{Facts as FactSets}
-use Rattle.pg_journeys.specs.declared.ground.Ground.{Ground}
 use Rattle.pg_journeys.specs.declared.men.Men.{Men}
-use Rattle.pg_journeys.specs.declared.side.Side.{Side}
-use Rattle.pg_journeys.specs.declared.rings.Rings.{Rings}
-use Rattle.pg_journeys.specs.declared.rings.Runner.{Runner}
 use Rattle.pg_journeys.proofs.CostLemmas.{path_as}
 use Rattle.pg_journeys.proofs.SideLemmas.{goals_few}
 

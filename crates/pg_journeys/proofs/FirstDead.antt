@@ -1,22 +1,6 @@
 -- The first colour that has no way alive in a round. Leads to the contracts of `first_dead`, `dead_in_rounds` and `dead_color`.
-use Rattle.std.proofs.Common.{◌≡◌, ℕ, ◌≤◌, ◌↔◌, inl, inr, Option, Some, None, Bool, true, false, refl, sym, subst, arith, IsTrue, IfSome, MatchOption}
-use Rattle.std.proofs.lemmas.Bool.{cases_lt}
-use Rattle.pg_board.specs.declared.man.Color.{Color}
-use Rattle.pg_board.specs.declared.man.Color.TheVariants.{White, Black}
-use Rattle.pg_board.specs.Placement.{Placement}
-use Rattle.pg_position.specs.declared.rights.Wing.{Wing}
-use Rattle.pg_position.specs.declared.state.State.{State}
-use Rattle.pg_captures.specs.Counting.{men, any_man}
-use Rattle.pg_journeys.specs.Facts.{Facts}
-use Rattle.pg_journeys.specs.FirstFacts.{HasWalls}
-use Rattle.pg_journeys.specs.Known.{known}
-use Rattle.pg_journeys.specs.Needs.{AsksForPlans, IsFirstDead}
-use Rattle.pg_journeys.specs.Plans.{IsAlive}
-use Rattle.pg_journeys.specs.Rounds.{HasFew, HasDeadColor}
+use Rattle.pg_journeys.proofs.Common.{◌≡◌, ℕ, ◌≤◌, ◌↔◌, inl, inr, Option, Some, None, Bool, true, false, refl, sym, subst, arith, IsTrue, IfSome, MatchOption, cases_lt, Color, White, Black, Placement, Wing, State, men, any_man, Facts, HasWalls, known, AsksForPlans, IsFirstDead, IsAlive, HasFew, HasDeadColor, BothAlive, IsFirstBy, AreFirstBy, IsDead, HasFewer, IsRound}
 use Rattle.pg_journeys.specs.lemmas.DecidingWays.{dec_some_way, dec_alive}
-use Rattle.pg_journeys.specs.inner.Needing.{BothAlive, IsFirstBy, AreFirstBy}
-use Rattle.pg_journeys.specs.inner.Showing.{IsDead}
-use Rattle.pg_journeys.specs.inner.Walking.{HasFewer, IsRound}
 use Rattle.pg_journeys.specs.declared.facts.Facts.{Facts as FactSets}
 use Rattle.pg_journeys.specs.declared.needs.DeadColor.{DeadColor}
 use Rattle.pg_journeys.proofs.LastRounds.{last_alive, is_not}

@@ -1,32 +1,12 @@
 -- Fronts: what is joined, met and taken. Leads to the contracts of a search's steps.
-use Rattle.std.proofs.Common.{◌≡◌, ◌≢◌, ℕ, ◌<◌, ◌≤◌, ◌⊎◌, inl, inr, Bool, true, false, not, ◌&&◌, ◌||◌, cond, List, length, set, get_or, refl, sym, ap, subst, arith, ◌∙◌}
-use Rattle.std.proofs.lemmas.Bool.Decides.{eqb_tells}
-use Rattle.std.proofs.lemmas.List.{get_or-set_same, get_or-set_other, get_or_default}
-use Rattle.pg_board.specs.Bits.{has}
-use Rattle.pg_board.specs.lemmas.Codes.{kind_of_number, kind_back}
-use Rattle.pg_board.specs.declared.man.Kind.{Kind}
-use Rattle.pg_board.specs.declared.man.Kind.TheVariants.{Pawn, Knight, Bishop, Rook, Queen, King}
-use Rattle.pg_board.specs.Men.{number_of_kind, kind_eq}
-use Rattle.pg_board.specs.SquareSets.{IsFirstFrom, HasNoneFrom}
-use Rattle.pg_journeys.specs.inner.Counts.{of_kind}
-use Rattle.pg_journeys.specs.inner.Fronts.{IsJoined, is_met, is_due, is_next, OnSet, IsMeeting, AreTakenDue, IsAdvanced, IsUnchanged}
-use Rattle.pg_journeys.specs.declared.fronts.Front.{Front}
+use Rattle.pg_journeys.proofs.Common.{◌≡◌, ◌≢◌, ℕ, ◌<◌, ◌≤◌, ◌⊎◌, inl, inr, Bool, true, false, not, ◌&&◌, ◌||◌, cond, List, length, set, get_or, refl, sym, ap, subst, arith, ◌∙◌, eqb_tells, get_or-set_same, get_or-set_other, get_or_default, has, Kind, number_of_kind, kind_eq, IsFirstFrom, HasNoneFrom, of_kind, is_met, is_due, is_next, OnSet, IsMeeting, AreTakenDue, IsAdvanced, IsUnchanged, Front, cases_Bool, not-true, not_from_false, or_left, or_right, and_from, kind_low}
+use Rattle.pg_journeys.specs.inner.Fronts.{IsJoined}
+use Rattle.pg_travel.proofs.RowTables.{same_kind}
 
 -- ---- tests
-pub on_or_off : (b : Bool) → (b ≡ true) ⊎ (b ≡ false)
-on_or_off true = inl refl
-on_or_off false = inr refl
-
 pub not_both : (b : Bool) → b ≡ true → b ≡ false → ⊥
 not_both true e f = cc
 not_both false e f = cc
-
-pub or_left : (a b : Bool) → a ≡ true → a || b ≡ true
-or_left a b e = ap (λ (x : Bool). x || b) e
-
-pub or_right : (a b : Bool) → b ≡ true → a || b ≡ true
-or_right true b e = refl
-or_right false b e = e
 
 pub or_either : (a b : Bool) → a || b ≡ true → (a ≡ true) ⊎ (b ≡ true)
 or_either true b e = inl refl
@@ -40,20 +20,7 @@ pub and_second : (a b : Bool) → a && b ≡ true → b ≡ true
 and_second true b e = e
 and_second false b e = absurd (cc)
 
-pub and_both : (a b : Bool) → a ≡ true → b ≡ true → a && b ≡ true
-and_both a b e f = cc
-
-pub not_true : (a : Bool) → not a ≡ true → a ≡ false
-not_true true e = absurd (cc)
-not_true false e = refl
-
-pub not_false : (a : Bool) → a ≡ false → not a ≡ true
-not_false a e = ap not e
-
 -- ---- kinds
-pub same_kind : (j k : Kind) → number_of_kind j ≡ number_of_kind k → j ≡ k
-same_kind j k e = sym (kind_back j) ∙ ap kind_of_number e ∙ kind_back k
-
 pub kind_is : (j k : Kind) → kind_eq j k ≡ true → j ≡ k
 kind_is j k e = elim (eqb_tells (number_of_kind j) (number_of_kind k)) [ inl w ↦ same_kind j k w.1 | inr w ↦ absurd (let f : kind_eq j k ≡ false = w.0 in not_both (kind_eq j k) e f) ]
 
@@ -62,14 +29,6 @@ is_kind j k e = elim (eqb_tells (number_of_kind j) (number_of_kind k)) [ inl w �
 
 pub kind_or : (j k : Kind) → (j ≡ k) ⊎ (j ≢ k)
 kind_or j k = elim (eqb_tells (number_of_kind j) (number_of_kind k)) [ inl w ↦ inl (same_kind j k w.1) | inr w ↦ inr (λ e. w.1 (ap number_of_kind e)) ]
-
-pub low_kind : (k : Kind) → number_of_kind k < 6
-low_kind Pawn = omega arith
-low_kind Knight = omega arith
-low_kind Bishop = omega arith
-low_kind Rook = omega arith
-low_kind Queen = omega arith
-low_kind King = omega arith
 
 -- what holds of a man holds of one who is the same
 pub moved : (P : Kind → ℕ → Type 0) (j k : Kind) (t s : ℕ) → j ≡ k → t ≡ s → P k s → P j t
@@ -113,7 +72,7 @@ meeting_then S T a b d m n = record {
   ];
   new_due = λ j t l h. elim (n.new_due j t l h) [
     | inl u ↦ elim (m.new_due j t l u) [ inl v ↦ inl v | inr (v, x) ↦ inr (v, inl x) ]
-    | inr (u, v) ↦ elim (on_or_off (is_met a j t)) [ inl y ↦ absurd (not_both (is_met b j t) (m.met j t l y) u) | inr y ↦ inr (y, inr v) ]
+    | inr (u, v) ↦ elim (cases_Bool (is_met a j t)) [ inl y ↦ absurd (not_both (is_met b j t) (m.met j t l y) u) | inr y ↦ inr (y, inr v) ]
   ];
   new_next = λ j t l h. elim (n.new_next j t l h) [
     | inl u ↦ elim (m.new_next j t l u) [ inl v ↦ inl v | inr v ↦ inr (inl v) ]
@@ -126,7 +85,7 @@ pub joined_old : (k : Kind) (x : ℕ) (a b : List ℕ) → IsJoined k x a b → 
 joined_old k x a b e j t h = e j t ∙ or_left (has (of_kind a j) t) (kind_eq j k && has x t) h
 
 pub joined_new : (k : Kind) (x : ℕ) (a b : List ℕ) → IsJoined k x a b → (j : Kind) (t : ℕ) → j ≡ k → has x t ≡ true → has (of_kind b j) t ≡ true
-joined_new k x a b e j t f h = e j t ∙ or_right (has (of_kind a j) t) (kind_eq j k && has x t) (and_both (kind_eq j k) (has x t) (is_kind j k f) h)
+joined_new k x a b e j t f h = e j t ∙ or_right (has (of_kind a j) t) (kind_eq j k && has x t) (and_from (kind_eq j k) (has x t) (is_kind j k f) h)
 
 pub joined_from : (k : Kind) (x : ℕ) (a b : List ℕ) → IsJoined k x a b → (j : Kind) (t : ℕ) → has (of_kind b j) t ≡ true → (has (of_kind a j) t ≡ true) ⊎ ((j ≡ k) × (has x t ≡ true))
 joined_from k x a b e j t h = elim (or_either (has (of_kind a j) t) (kind_eq j k && has x t) (sym (e j t) ∙ h)) [
@@ -138,7 +97,7 @@ pub meets_now : (k : Kind) (i x y e : ℕ) (b : Bool) (old new : Front) → b �
     length old.met ≡ 6 → i ≡ number_of_kind k → ((q : ℕ) → q < 64 → has y q ≡ (has x q && not (has (get_or old.met i e) q))) →
     IsJoined k y old.met new.met → IsJoined k y old.due new.due → IsMeeting (OnSet k x b) old new
 meets_now k i x y d b old new is same_next long at parted joined_met joined_due =
-    let whole : get_or old.met i d ≡ of_kind old.met k = get_or_default old.met i d 0 (omega (arith, low_kind k)) ∙ ap (λ (v : ℕ). get_or old.met v 0) at in
+    let whole : get_or old.met i d ≡ of_kind old.met k = get_or_default old.met i d 0 (omega (arith, kind_low k)) ∙ ap (λ (v : ℕ). get_or old.met v 0) at in
     let part : (q : ℕ) → q < 64 → has y q ≡ (has x q && not (has (of_kind old.met k) q)) = λ q l. parted q l ∙ ap (λ (v : ℕ). has x q && not (has v q)) whole in
     let next : (j : Kind) (t : ℕ) → is_next new j t ≡ is_next old j t = λ j t. ap (λ (z : List ℕ). has (of_kind z j) t) same_next in
     let none : cond b 1 0 ≡ 0 = ap (λ (z : Bool). cond z 1 0) is in
@@ -146,11 +105,11 @@ meets_now k i x y d b old new is same_next long at parted joined_met joined_due 
       met = λ j t l h. joined_old k y old.met new.met joined_met j t h;
       due = λ j t l h. joined_old k y old.due new.due joined_due j t h;
       next = λ j t l h. next j t ∙ h;
-      free = λ j t l h. elim (on_or_off (is_met old j t)) [
+      free = λ j t l h. elim (cases_Bool (is_met old j t)) [
         | inl u ↦ joined_old k y old.met new.met joined_met j t u
         | inr u ↦
             (let off : has (of_kind old.met k) t ≡ false = subst (λ (z : Kind). is_met old z t ≡ false) h.0 u in
-            let on : has y t ≡ true = part t l ∙ and_both (has x t) (not (has (of_kind old.met k) t)) h.1 (not_false (has (of_kind old.met k) t) off) in
+            let on : has y t ≡ true = part t l ∙ and_from (has x t) (not (has (of_kind old.met k) t)) h.1 (not_from_false (has (of_kind old.met k) t) off) in
             joined_new k y old.met new.met joined_met j t h.0 on)
       ];
       counted = λ j t l h. absurd (let e : 1 ≡ cond b 1 0 = h.2 in omega (arith, e, none));
@@ -159,7 +118,7 @@ meets_now k i x y d b old new is same_next long at parted joined_met joined_due 
         | inl u ↦ inl u
         | inr (u, v) ↦
             (let parts : has x t && not (has (of_kind old.met k) t) ≡ true = sym (part t l) ∙ v in
-            let off : has (of_kind old.met k) t ≡ false = not_true (has (of_kind old.met k) t) (and_second (has x t) (not (has (of_kind old.met k) t)) parts) in
+            let off : has (of_kind old.met k) t ≡ false = not-true (has (of_kind old.met k) t) (and_second (has x t) (not (has (of_kind old.met k) t)) parts) in
             inr (subst (λ (z : Kind). is_met old z t ≡ false) (sym u) off, (u, and_first (has x t) (not (has (of_kind old.met k) t)) parts, sym none)))
       ];
       new_next = λ j t l h. inl (sym (next j t) ∙ h);
@@ -169,7 +128,7 @@ meets_now k i x y d b old new is same_next long at parted joined_met joined_due 
 pub taken_due : (k : Kind) (i s d rest : ℕ) (old new : Front) → number_of_kind k ≡ i → length old.due ≡ 6 → IsFirstFrom (get_or old.due i d) 0 s →
     HasNoneFrom rest 0 → new.due ≡ set old.due i rest → AreTakenDue k (get_or old.due i d) old new
 taken_due k i s d rest old new number long first none wrote =
-    let inside : i < length old.due = omega (arith, low_kind k) in
+    let inside : i < length old.due = omega (arith, kind_low k) in
     let mine : of_kind new.due k ≡ rest = ap (λ (y : ℕ). get_or new.due y 0) number ∙ ap (λ (y : List ℕ). get_or y i 0) wrote ∙ get_or-set_same old.due i rest 0 inside in
     let before : of_kind old.due k ≡ get_or old.due i d = ap (λ (y : ℕ). get_or old.due y 0) number ∙ get_or_default old.due i 0 d inside in
     let others : (j : Kind) → number_of_kind j ≢ i → of_kind new.due j ≡ of_kind old.due j = λ j ne. ap (λ (y : List ℕ). get_or y (number_of_kind j) 0) wrote ∙ get_or-set_other old.due i (number_of_kind j) rest 0 ne in

@@ -1,17 +1,5 @@
 -- What paths make of a man by his kind. Leads to the contracts of `kinds_of` and `arrival`.
-use Rattle.std.proofs.Common.{◌≡◌, ◌≢◌, ℕ, ◌<◌, ◌⊎◌, inl, inr, Bool, true, false, List, [], ◌∷◌, refl, sym, subst, ◌∙◌, arith}
-use Rattle.pg_board.specs.declared.man.Color.{Color}
-use Rattle.pg_board.specs.declared.man.Kind.{Kind}
-use Rattle.pg_board.specs.declared.man.Kind.TheVariants.{Pawn, Knight, Bishop, Rook, Queen, King}
-use Rattle.pg_board.specs.Bits.{has}
-use Rattle.pg_board.specs.Men.{number_of_kind}
-use Rattle.pg_captures.specs.FreeSteps.{Becomes}
-use Rattle.pg_journeys.specs.Facts.{Facts}
-use Rattle.pg_journeys.specs.Journeys.{Leg, IsPath}
-use Rattle.pg_journeys.specs.inner.Sides.{facts_of, square_at, kind_at}
-use Rattle.pg_journeys.specs.inner.Costing.{IsCountTo, MayBeIn}
-use Rattle.pg_journeys.specs.declared.side.Side.{Side}
-use Rattle.pg_journeys.specs.declared.rings.Runner.{Runner}
+use Rattle.pg_journeys.proofs.Common.{◌≡◌, ◌≢◌, ℕ, ◌<◌, ◌⊎◌, inl, inr, Bool, true, false, List, [], ◌∷◌, refl, sym, subst, ◌∙◌, arith, Color, Kind, Pawn, Knight, Bishop, Rook, Queen, King, has, number_of_kind, Becomes, Facts, Leg, IsPath, facts_of, square_at, kind_at, IsCountTo, MayBeIn, Side, Runner}
 use Rattle.pg_journeys.proofs.SideLemmas.{goals_few}
 
 -- a man of kind k may come to be of kind j

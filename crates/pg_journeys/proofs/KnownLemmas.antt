@@ -1,11 +1,7 @@
 -- What is known beforehand. Leads to the contracts of `same_men`, `add_color`, `known_for` and `known_steps`.
-use Rattle.std.proofs.Common.{◌≡◌, ℕ, ◌<◌, ◌≤◌, true, false, subst, arith}
-use Rattle.std.proofs.Math.Logic.{∥∥₁_map}
-use Rattle.pg_journeys.specs.inner.Grounds.{HasSteps}
-use Rattle.pg_journeys.specs.inner.Sides.{square_at, kind_at, AreAims, AreSameMen, IsLike}
+use Rattle.pg_journeys.proofs.Common.{◌≡◌, ℕ, ◌<◌, ◌≤◌, true, false, subst, arith, ∥∥₁_map, HasSteps, square_at, kind_at, AreAims, AreSameMen, IsLike, Side}
 use Rattle.pg_journeys.specs.declared.known_paths.KnownPaths.{KnownPaths}
 use Rattle.pg_journeys.specs.declared.men.Men.{Men}
-use Rattle.pg_journeys.specs.declared.side.Side.{Side}
 use Rattle.pg_journeys.proofs.DecidingEnds.{aims_known, steps_known}
 
 -- the first n men are the same

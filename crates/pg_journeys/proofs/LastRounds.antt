@@ -1,22 +1,8 @@
 -- Round by round: where a colour has no way alive the test holds, and after the fourth round, or where facts stay the same, it
 -- does not. Leads to the contracts of `last_facts` and `facts_for`.
-use Rattle.std.proofs.Common.{◌≡◌, ℕ, zero, suc, ◌+◌, ◌<◌, ◌≤◌, ◌↔◌, inl, inr, Option, Some, None, Bool, true, false, refl, sym, subst, arith, eqb, eqb-true, ◌&&◌, ◌∙◌, IsTrue, IfSome, IfNone}
-use Rattle.pg_board.specs.declared.man.Color.{Color}
-use Rattle.pg_board.specs.Placement.{Placement}
-use Rattle.pg_board.specs.lemmas.Decisions.{dec_less}
-use Rattle.pg_board.proofs.SetLemmas.{and_true}
-use Rattle.pg_position.specs.declared.rights.Wing.{Wing}
-use Rattle.pg_position.specs.declared.state.State.{State}
-use Rattle.pg_position.specs.Position.{IsPosition}
-use Rattle.pg_journeys.specs.Facts.{Facts, FactsHold}
-use Rattle.pg_journeys.specs.FirstFacts.{AreFirst, HasWalls}
-use Rattle.pg_journeys.specs.Known.{known}
-use Rattle.pg_journeys.specs.Plans.{IsAlive}
-use Rattle.pg_journeys.specs.Rounds.{HasFew, AreFacts, HasDeadColor, JourneysHold}
+use Rattle.pg_journeys.proofs.Common.{◌≡◌, ℕ, zero, suc, ◌+◌, ◌<◌, ◌≤◌, ◌↔◌, inl, inr, Option, Some, None, Bool, true, false, refl, sym, subst, arith, eqb, eqb-true, ◌&&◌, ◌∙◌, IsTrue, IfSome, IfNone, Color, Placement, dec_less, and_true, Wing, State, IsPosition, Facts, FactsHold, AreFirst, HasWalls, known, IsAlive, HasFew, AreFacts, HasDeadColor, JourneysHold, facts_hold, IsDead, HasFewer, IsRound}
 use Rattle.pg_journeys.specs.lemmas.AgreeingFacts.{facts_agree, alive_along}
-use Rattle.pg_journeys.specs.lemmas.RoundLemmas.{facts_hold}
-use Rattle.pg_journeys.specs.inner.Showing.{IsDead}
-use Rattle.pg_journeys.specs.inner.Walking.{HasFewer, IsNext, IsRound}
+use Rattle.pg_journeys.specs.inner.Walking.{IsNext}
 use Rattle.pg_journeys.specs.declared.facts.Facts.{Facts as FactSets}
 
 -- ---- the rounds

@@ -1,32 +1,7 @@
 -- What plans count at least, way by way. Leads to the contracts of `total_with`, `least_in_way`, `least_in_all` and
 -- `least_counts`.
-use Rattle.std.proofs.Common.{◌≡◌, ℕ, ◌+◌, ◌<◌, ◌≤◌, ◌⊎◌, ◌↔◌, inl, inr, IsTrue, Option, Some, None, Bool, true, false, cond, List, refl, sym, subst, arith}
-use Rattle.std.proofs.lemmas.Bool.Decides.{leb_tells}
-use Rattle.pg_board.specs.declared.man.Color.{Color}
-use Rattle.pg_board.specs.Tally.{total}
-use Rattle.pg_board.specs.Placement.{Placement}
-use Rattle.pg_position.specs.declared.rights.Wing.{Wing}
-use Rattle.pg_position.specs.declared.rights.Wing.TheVariants.{KingSide, QueenSide}
-use Rattle.pg_position.specs.declared.state.State.{State}
-use Rattle.pg_travel.specs.Origins.{charge}
-use Rattle.pg_assignments.specs.declared.costs.Costs.{Costs}
-use Rattle.pg_assignments.specs.Assignments.{cost, Below, sum_of, IsTotal, IsLeast, IsLeastTotal}
-use Rattle.pg_assignments.specs.Search.{lesser_of}
-use Rattle.pg_assignments.proofs.LeastLemmas.{least_none, least_some, none_holds, some_holds, some_least, least_as, least_either}
-use Rattle.pg_journeys.specs.Facts.{Facts}
-use Rattle.pg_journeys.specs.Journeys.{Leg, quiet, IsWayUnder}
-use Rattle.pg_journeys.specs.Known.{known}
-use Rattle.pg_journeys.specs.Needs.{path_cost, AreEnough, IsLeastNeed}
-use Rattle.pg_journeys.specs.Plans.{Measure, Moves, QuietMoves}
-use Rattle.pg_journeys.specs.lemmas.DecidingPaths.{weigh}
-use Rattle.pg_journeys.specs.lemmas.PlanTotals.{plans_are_totals}
-use Rattle.pg_journeys.specs.inner.Counting.{counts}
-use Rattle.pg_journeys.specs.inner.Costing.{AreCostsOf}
-use Rattle.pg_journeys.specs.inner.Needing.{counted_with, PayInWay, PayInSome}
-use Rattle.pg_journeys.specs.inner.Showing.{is_quiet}
-use Rattle.pg_journeys.specs.inner.Sides.{facts_of, square_at, IsSide, JourneysOf, IsPaidBy}
+use Rattle.pg_journeys.proofs.Common.{◌≡◌, ℕ, ◌+◌, ◌<◌, ◌≤◌, ◌⊎◌, ◌↔◌, inl, inr, IsTrue, Option, Some, None, Bool, true, false, cond, List, refl, sym, subst, arith, leb_tells, Color, total, Placement, Wing, KingSide, QueenSide, State, charge, Costs, cost, Below, sum_of, IsTotal, IsLeast, IsLeastTotal, lesser_of, least_none, least_some, none_holds, some_holds, some_least, least_as, least_either, Facts, Leg, quiet, IsWayUnder, known, path_cost, AreEnough, IsLeastNeed, Measure, Moves, QuietMoves, weigh, plans_are_totals, counts, AreCostsOf, counted_with, PayInWay, PayInSome, is_quiet, facts_of, square_at, IsSide, JourneysOf, IsPaidBy, Side}
 use Rattle.pg_journeys.specs.declared.facts.Facts.{Facts as FactSets}
-use Rattle.pg_journeys.specs.declared.side.Side.{Side}
 use Rattle.pg_journeys.proofs.CostLemmas.{costs_to}
 use Rattle.pg_journeys.proofs.Paying.{all_counted, few_counted}
 

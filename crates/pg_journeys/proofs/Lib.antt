@@ -1,8 +1,9 @@
+mod Common
 mod MenLemmas
 mod SquareLemmas
 mod TableLemmas
 mod PawnLemmas
-mod SpanLemmas
+pub mod SpanLemmas
 mod CostLemmas
 mod EndLemmas
 mod RoomLemmas
@@ -26,16 +27,16 @@ mod LastRounds
 mod LeastNeeds
 mod FirstDead
 mod WhoIsReached
-mod FrontLemmas
+pub mod FrontLemmas
 mod KnownLemmas
 mod AlikeCases
-mod MemoryLemmas
+pub mod MemoryLemmas
 mod KindLemmas
-mod StepLemmas
+pub mod StepLemmas
 mod BackLemmas
 mod PawnParts
 mod AheadLemmas
-mod RestingLemmas
+pub mod RestingLemmas
 mod RestingPlans
 mod RestingShown
 mod Lifting

@@ -1,29 +1,8 @@
 -- The men of a colour without those who rest, and the pawn that has just passed a square. Leads to the contracts of `men_without`
 -- and `passing_pawn`.
-use Rattle.std.proofs.Common.{◌≡◌, ◌↔◌, ℕ, ◌+◌, ◌<◌, ◌≤◌, arith, inl, inr, Option, Some, None, true, false, refl, sym, ap, subst, ◌∙◌}
-use Rattle.pg_board.specs.Bits.{has}
-use Rattle.pg_board.specs.declared.man.Color.{Color}
-use Rattle.pg_board.specs.declared.man.Color.TheVariants.{White, Black}
-use Rattle.pg_board.specs.declared.man.Man.{Man}
-use Rattle.pg_board.specs.Men.{other}
-use Rattle.pg_board.specs.Placement.{Placement, get}
-use Rattle.pg_board.specs.SquareSets.{IsSetOf}
-use Rattle.pg_position.specs.declared.state.State.{State}
-use Rattle.pg_position.specs.Position.{IsPosition, PawnsClause}
-use Rattle.pg_position.specs.Squares.{HasAhead, ahead}
-use Rattle.pg_captures.specs.Counting.{men, any_man}
-use Rattle.pg_captures.specs.Owed.{victims}
-use Rattle.pg_journeys.specs.Journeys.{HasPassed}
-use Rattle.pg_journeys.specs.Facts.{Facts}
-use Rattle.pg_journeys.specs.inner.Grounds.{IsGround}
-use Rattle.pg_journeys.specs.inner.Resting.{lifted, lifted_from, AreResting, IsWithRest}
-use Rattle.pg_journeys.specs.inner.Showing.{IsDead, Shows}
-use Rattle.pg_journeys.specs.declared.ground.Ground.{Ground}
+use Rattle.pg_journeys.proofs.Common.{◌≡◌, ◌↔◌, ℕ, ◌+◌, ◌<◌, ◌≤◌, arith, inl, inr, Option, Some, None, true, false, sym, ap, subst, ◌∙◌, has, Color, Man, other, Placement, get, IsSetOf, State, IsPosition, PawnsClause, HasAhead, ahead, men, any_man, victims, HasPassed, Facts, IsGround, lifted, lifted_from, AreResting, IsWithRest, IsDead, Shows, Ground, Shown, AreMen, IsSide, Side, cases_Bool, other_other}
 use Rattle.pg_journeys.specs.declared.men.Men.{Men}
-use Rattle.pg_journeys.specs.declared.shown.Shown.{Shown}
-use Rattle.pg_journeys.specs.inner.Sides.{AreMen, AreParts, IsSide}
-use Rattle.pg_journeys.specs.declared.side.Side.{Side}
-use Rattle.pg_journeys.proofs.FrontLemmas.{on_or_off}
+use Rattle.pg_journeys.specs.inner.Sides.{AreParts}
 use Rattle.pg_journeys.proofs.Budgets.{IsShown}
 use Rattle.pg_journeys.proofs.RestingPlans.{dead_same}
 use Rattle.pg_journeys.proofs.RestingShown.{shown_with}
@@ -33,31 +12,27 @@ use Rattle.pg_journeys.proofs.SpanLemmas.{passed_ahead}
 -- ---- the men who do not rest
 -- no man stands where none is found
 pub found_none : (b : Placement) (z s : ℕ) (m : Man) → s < 64 → get (lifted b z) s ≡ Some m → get b s ≡ None → ⊥
-found_none b z s m low there here = elim (on_or_off (has z s)) [
+found_none b z s m low there here = elim (cases_Bool (has z s)) [
   | inl on ↦ (let e : None ≡ Some m = sym (lifted_off b z s low on) ∙ there in cc)
   | inr off ↦ (let e : None ≡ Some m = sym here ∙ sym (lifted_left b z s low off) ∙ there in cc)
 ]
 
 -- who stands where none rests
 pub found_there : (b : Placement) (z s : ℕ) (m n : Man) → s < 64 → get (lifted b z) s ≡ Some m → get b s ≡ Some n → get (lifted b z) s ≡ Some n
-found_there b z s m n low there here = elim (on_or_off (has z s)) [
+found_there b z s m n low there here = elim (cases_Bool (has z s)) [
   | inl on ↦ absurd (let e : None ≡ Some m = sym (lifted_off b z s low on) ∙ there in cc)
   | inr off ↦ lifted_left b z s low off ∙ here
 ]
 
 -- ---- the pawn that has just passed a square
-other_twice : (c : Color) → other (other c) ≡ c
-other_twice White = refl
-other_twice Black = refl
-
 pub passes_ahead : (p : State) (e : ℕ) (side c : Color) → IsPosition p → p.passed ≡ Some e → side ≡ p.side → c ≡ other side → HasAhead c 1 e
-passes_ahead p e side c is at same turn = passed_ahead p c e is at (sym same ∙ sym (other_twice side) ∙ ap other (sym turn))
+passes_ahead p e side c is at same turn = passed_ahead p c e is at (sym same ∙ sym (other_other side) ∙ ap other (sym turn))
 
 pub passer_on : (p : State) (e : ℕ) (side d : Color) (n set : ℕ) → p.passed ≡ Some e → side ≡ p.side → d ≡ other side → n ≡ ahead d 1 e → IsSetOf set (λ q. q ≡ n) →
     (c : Color) (s u : ℕ) → HasPassed p c s u → s < 64 → has set s ≡ true
 passer_on p e side d n set at same turn is one c s u (own, passed, there) low =
     let same_square : u ≡ e = (let h : Some u ≡ Some e = sym passed ∙ at in cc) in
-    let same_color : c ≡ d = sym (other_twice c) ∙ ap other (sym own ∙ sym same) ∙ sym turn in
+    let same_color : c ≡ d = sym (other_other c) ∙ ap other (sym own ∙ sym same) ∙ sym turn in
     (one s low).1 (there ∙ ap (λ (x : ℕ). ahead c 1 x) same_square ∙ ap (λ (x : Color). ahead x 1 e) same_color ∙ sym is)
 
 pub none_passed : (p : State) (set : ℕ) → p.passed ≡ None → (c : Color) (s u : ℕ) → HasPassed p c s u → s < 64 → has set s ≡ true

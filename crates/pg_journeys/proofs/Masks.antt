@@ -1,20 +1,6 @@
 -- A bit that two masks share. Leads to the contract of `may_change`.
-use Rattle.std.proofs.Common.{◌≡◌, ◌≢◌, ℕ, ◌<◌, ◌⊎◌, ◌↔◌, ◌&&◌, ◌||◌, ◌+◌, subst, inl, inr, Option, Bool, true, false, not, eqb, refl, sym, ap, arith, ◌∙◌, bit_and, w64, IsTrue}
-use Rattle.std.proofs.lemmas.Bool.Decides.{Decides-eqb}
-use Rattle.std.proofs.lemmas.Nat.{and_le_r}
-use Rattle.std.proofs.lemmas.Nat.Bits.{bit_at_ones, bit_at_ones_above}
-use Rattle.std.specs.Int.{trailing_zeros}
-use Rattle.pg_board.specs.Bits.{has, has-first, has-and, has-none}
-use Rattle.pg_board.specs.lemmas.Decisions.{dec_less}
-use Rattle.pg_board.specs.SquareSets.{IsSetOf}
-use Rattle.pg_board.proofs.SetLemmas.{and_true}
-use Rattle.pg_board.specs.declared.man.Color.{Color}
-use Rattle.pg_position.specs.declared.rights.Wing.{Wing}
-use Rattle.pg_travel.specs.Origins.{counted}
+use Rattle.pg_journeys.proofs.Common.{◌≡◌, ◌≢◌, ℕ, ◌<◌, ◌⊎◌, ◌↔◌, ◌&&◌, ◌||◌, ◌+◌, subst, inl, inr, Option, Bool, true, false, not, eqb, refl, sym, ap, arith, ◌∙◌, bit_and, w64, IsTrue, Decides-eqb, and_le_r, bit_at_ones, bit_at_ones_above, trailing_zeros, has, has-first, has-and, has-none, dec_less, IsSetOf, and_true, Color, Wing, counted, and_from}
 use Rattle.pg_journeys.proofs.ShownWays.{either, of_one, of_other}
-
-both_true : (x y : Bool) → x ≡ true → y ≡ true → x && y ≡ true
-both_true x y e f = cc
 
 not_nought : (n : ℕ) → not (eqb n 0) ≡ true → 0 < n
 not_nought n e = elim (eqb n 0) as (λ v. eqb n 0 ≡ v → not v ≡ true → 0 < n) [
@@ -46,7 +32,7 @@ shared_of a b h =
 of_shared : (a b : ℕ) → Shared a b → not (eqb (bit_and (bit_and a b) 131071) 0) ≡ true
 of_shared a b (e, l, x, y) =
     let n : ℕ = bit_and (bit_and a b) 131071 in
-    let on : has n e ≡ true = has-and (bit_and a b) 131071 e ∙ both_true _ _ (has-and a b e ∙ both_true _ _ x y) (low_bits e l) in
+    let on : has n e ≡ true = has-and (bit_and a b) 131071 e ∙ and_from _ _ (has-and a b e ∙ and_from _ _ x y) (low_bits e l) in
     elim (eqb n 0) as (λ v. eqb n 0 ≡ v → not v ≡ true) [
       | true ↦ λ t. let z : n ≡ 0 = (Decides-eqb n 0).0 t in
           let off : has n e ≡ false = ap (λ x. has x e) z ∙ has-none e in absurd (cc)

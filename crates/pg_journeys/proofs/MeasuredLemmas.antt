@@ -1,16 +1,6 @@
 -- What is known of what is measured, by its type. Leads to the contracts of all that take it.
-use Rattle.std.proofs.Common.{ℕ, ◌<◌, inl, inr, Bool, true, false, None, List, subst}
-use Rattle.std.proofs.Math.Logic.{∥∥₁_elim, ∥∥₁_map}
-use Rattle.pg_board.specs.lemmas.Decisions.{dec_all_below, dec_along, dec_and, dec_and3, dec_at_most, dec_equal, dec_not, dec_or, dec_some_below, dec_true}
-use Rattle.pg_journeys.specs.Journeys.{HasPassed}
+use Rattle.pg_journeys.proofs.Common.{ℕ, ◌<◌, inl, inr, Bool, true, false, None, List, subst, ∥∥₁_elim, ∥∥₁_map, dec_all_below, dec_along, dec_and, dec_and3, dec_at_most, dec_equal, dec_not, dec_or, dec_some_below, dec_true, HasPassed, runner_of, walker_of, AreCostRows, AreTheirs, IsCount, IsCountTo, IsFall, ArePaired, AreAims, EndWithin, Measured, Walker, Runner, Side}
 use Rattle.pg_journeys.specs.lemmas.DecidingFates.{dec_passed}
-use Rattle.pg_journeys.specs.inner.Costing.{runner_of, walker_of, AreCostRows, AreTheirs, IsCount, IsCountTo, IsFall}
-use Rattle.pg_journeys.specs.inner.Showing.{ArePaired}
-use Rattle.pg_journeys.specs.inner.Sides.{AreAims, EndWithin}
-use Rattle.pg_journeys.specs.declared.measured.Measured.{Measured}
-use Rattle.pg_journeys.specs.declared.plans.Walker.{Walker}
-use Rattle.pg_journeys.specs.declared.rings.Runner.{Runner}
-use Rattle.pg_journeys.specs.declared.side.Side.{Side}
 use Rattle.pg_journeys.proofs.DecidingEnds.{aims_known, dec_end_within}
 use Rattle.pg_journeys.proofs.SideLemmas.{decided, men_low}
 

@@ -1,70 +1,29 @@
 -- When cases are alike, and what is remembered of them. Leads to the contracts of memory.rt.
-use Rattle.std.proofs.Common.{◌≡◌, ℕ, ◌<◌, ◌↔◌, inl, inr, Option, Some, Bool, true, false, not, ◌||◌, refl, sym, ap, subst, ◌∙◌, List, length, get_or, replicate, IsTrue}
-use Rattle.std.specs.Prelude.{All, Vec}
+use Rattle.pg_journeys.proofs.Common.{◌≡◌, ℕ, ◌<◌, ◌↔◌, inl, inr, Option, Some, Bool, true, false, not, ◌||◌, sym, ap, subst, ◌∙◌, List, length, get_or, replicate, IsTrue, All, Vec, not-false, get_or_default, with_items_is, All-replicate, All-same, has, Color, Kind, other, is_of, Placement, get, Meet, Wing, Stands, holds, ahead, plies_left, victims, HasPassed, landing, HasSteps, AreAlike, IsAnswer, IsRemembered, Case, Remembered, cases_Bool, or_left, or_right, not-true, of_there}
 use Rattle.std.specs.Vec.{with_items}
-use Rattle.std.proofs.lemmas.Bool.{not-false}
-use Rattle.std.proofs.lemmas.List.{get_or_default, with_items_is}
-use Rattle.std.proofs.lemmas.List.Elements.{All-replicate, All-same}
-use Rattle.pg_board.specs.Bits.{has}
 use Rattle.pg_board.specs.Equality.{placement_eq, placement_eq_decides}
-use Rattle.pg_board.specs.declared.man.Color.{Color}
-use Rattle.pg_board.specs.declared.man.Color.TheVariants.{White, Black}
-use Rattle.pg_board.specs.declared.man.Kind.{Kind}
-use Rattle.pg_board.specs.declared.man.Man.{Man}
-use Rattle.pg_board.specs.Men.{other, is_of, color_eq}
-use Rattle.pg_board.specs.Placement.{Placement, get}
-use Rattle.pg_board.specs.SquareSets.{Meet}
-use Rattle.pg_position.specs.declared.rights.Wing.{Wing}
-use Rattle.pg_position.specs.Position.{Stands, holds}
-use Rattle.pg_position.specs.Squares.{ahead}
-use Rattle.pg_captures.specs.Owed.{plies_left, victims}
-use Rattle.pg_journeys.specs.Journeys.{HasPassed}
-use Rattle.pg_journeys.specs.Known.{landing}
-use Rattle.pg_journeys.specs.inner.Grounds.{HasSteps}
-use Rattle.pg_journeys.specs.inner.Remembering.{AreAlike, IsAnswer, IsRemembered}
 use Rattle.pg_journeys.specs.declared.facts.Facts.{Facts as FactSets}
-use Rattle.pg_journeys.specs.declared.memory.Case.{Case}
-use Rattle.pg_journeys.specs.declared.memory.Remembered.{Remembered}
 use Rattle.pg_journeys.specs.declared.steps.Steps.{Steps}
 use Rattle.pg_journeys.proofs.AlikeCases.{same_answer}
 use Rattle.pg_journeys.proofs.DecidingEnds.{steps_known}
-use Rattle.pg_journeys.proofs.FrontLemmas.{on_or_off, not_both}
+use Rattle.pg_journeys.proofs.FrontLemmas.{not_both}
 
 -- ---- the same men
-own_color : (c : Color) → color_eq c c ≡ true
-own_color White = refl
-own_color Black = refl
-
-or_first : (a b : Bool) → a ≡ true → (a || b) ≡ true
-or_first true b e = refl
-or_first false b e = cc
-
-or_second : (a b : Bool) → b ≡ true → (a || b) ≡ true
-or_second true b e = refl
-or_second false b e = e
-
-is_off : (b : Bool) → not b ≡ true → b ≡ false
-is_off true h = cc
-is_off false h = refl
-
-is_own : (b : Placement) (c : Color) (k : Kind) (s : ℕ) → Stands b c k s → is_of c (get b s) ≡ true
-is_own b c k s st = ap (λ (o : Option Man). is_of c o) st ∙ own_color c
-
 module _ (x y : Placement) (c : Color) (mine theirs own diff : ℕ) (m : Bool) (here : (q : ℕ) → q < 64 → has mine q ≡ is_of c (get x q)) (there : (q : ℕ) → q < 64 → has theirs q ≡ is_of c (get y q)) (all : (q : ℕ) → has own q ≡ (has mine q || has theirs q)) (same : (q : ℕ) → q < 64 → (has diff q ≡ false) ↔ (get x q ≡ get y q)) (meets : IsTrue m ↔ Meet own diff) (none : m ≡ false) where
   alike_on : (s : ℕ) → s < 64 → has own s ≡ true → get x s ≡ get y s
-  alike_on s low on = elim (on_or_off (has diff s)) [ inl differ ↦ absurd (not_both m (meets.1 (s, low, on, differ)) none) | inr is ↦ (same s low).0 is ]
+  alike_on s low on = elim (cases_Bool (has diff s)) [ inl differ ↦ absurd (not_both m (meets.1 (s, low, on, differ)) none) | inr is ↦ (same s low).0 is ]
 
   stand_alike : (k : Kind) (s : ℕ) → s < 64 → Stands x c k s ↔ Stands y c k s
   stand_alike k s low = (
-    λ st. sym (alike_on s low (all s ∙ or_first (has mine s) (has theirs s) (here s low ∙ is_own x c k s st))) ∙ st,
-    λ st. alike_on s low (all s ∙ or_second (has mine s) (has theirs s) (there s low ∙ is_own y c k s st)) ∙ st,
+    λ st. sym (alike_on s low (all s ∙ or_left (has mine s) (has theirs s) (here s low ∙ of_there x c k s st))) ∙ st,
+    λ st. alike_on s low (all s ∙ or_right (has mine s) (has theirs s) (there s low ∙ of_there y c k s st)) ∙ st,
   )
 
 pub same_own_men : (a b x y : Placement) (c : Color) (mine theirs own diff : ℕ) (m : Bool) → x ≡ a → y ≡ b → ((q : ℕ) → q < 64 → has mine q ≡ is_of c (get x q)) → ((q : ℕ) → q < 64 → has theirs q ≡ is_of c (get y q)) → ((q : ℕ) → has own q ≡ (has mine q || has theirs q)) →
     ((q : ℕ) → q < 64 → (has diff q ≡ false) ↔ (get x q ≡ get y q)) → IsTrue m ↔ Meet own diff → not m ≡ true → (k : Kind) (s : ℕ) → s < 64 → Stands a c k s ↔ Stands b c k s
 same_own_men a b x y c mine theirs own diff m ex ey here there all same meets none =
     subst (λ (z : Placement). (k : Kind) (s : ℕ) → s < 64 → Stands z c k s ↔ Stands b c k s) ex
-    (subst (λ (z : Placement). (k : Kind) (s : ℕ) → s < 64 → Stands x c k s ↔ Stands z c k s) ey (stand_alike x y c mine theirs own diff m here there all same meets (is_off m none)))
+    (subst (λ (z : Placement). (k : Kind) (s : ℕ) → s < 64 → Stands x c k s ↔ Stands z c k s) ey (stand_alike x y c mine theirs own diff m here there all same meets (not-true m none)))
 
 -- ---- the same pawn that has just passed a square
 -- r is the square that a pawn of the colour has just passed, if captures of the other colour may land there

@@ -1,26 +1,10 @@
 -- The men of a colour that were found so far. Leads to the contract of `men_of`.
-use Rattle.std.proofs.Common.{arith, ◌≡◌, ◌≢◌, ℕ, ◌+◌, ◌<◌, ◌≤◌, inl, inr, true, false, Some, refl, sym, ap, subst, ◌∙◌}
-use Rattle.std.proofs.lemmas.Bool.Decides.{eqb_tells}
-use Rattle.pg_board.specs.declared.man.Color.{Color}
-use Rattle.pg_board.specs.declared.man.Kind.{Kind}
-use Rattle.pg_board.specs.declared.man.Man.{Man}
-use Rattle.pg_board.specs.Bits.{has}
-use Rattle.pg_board.specs.Men.{is_of}
-use Rattle.pg_board.specs.Placement.{Placement, get}
-use Rattle.pg_board.specs.SquareSets.{HasNoneFrom, IsFirstFrom}
-use Rattle.pg_board.specs.Tally.{one, count_below}
-use Rattle.pg_board.specs.lemmas.Sums.{total-zero, total_changed}
+use Rattle.pg_journeys.proofs.Common.{arith, ◌≡◌, ◌≢◌, ℕ, ◌+◌, ◌<◌, ◌≤◌, inl, inr, true, false, Some, refl, sym, ap, subst, ◌∙◌, eqb_tells, Color, Kind, Man, has, is_of, Placement, get, HasNoneFrom, IsFirstFrom, one, count_below, total-zero, total_changed, Stands, of_color, men, any_man, same_kind, IsWithout, other_than, taken_itself, square_at, kind_at, AreMen, IsAdded}
 use Rattle.pg_board.specs.lemmas.Tallies.{tally_below-all}
-use Rattle.pg_position.specs.Position.{Stands}
-use Rattle.pg_captures.specs.Counting.{of_color, men, any_man}
 use Rattle.pg_captures.specs.PriceLists.{number_among}
-use Rattle.pg_captures.specs.lemmas.BoardLemmas.{same_kind}
 use Rattle.pg_travel.proofs.SourceLemmas.{number_of, of_there, of_man}
-use Rattle.pg_travel.proofs.TakenSets.{IsWithout, other_than, taken_itself}
 use Rattle.pg_journeys.proofs.SquareLemmas.{apart}
 use Rattle.pg_journeys.specs.declared.men.Men.{Men}
-use Rattle.pg_journeys.specs.inner.Sides.{square_at, kind_at, AreMen}
-use Rattle.pg_journeys.specs.inner.Makings.{IsAdded}
 
 -- a man who was found stands there, and his square is not left
 abbrev pub WasFound : Placement → Color → ℕ → ℕ → Kind → Type 0

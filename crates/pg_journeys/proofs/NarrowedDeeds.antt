@@ -1,23 +1,5 @@
 -- What the loop over the men keeps: what the plans have of the men so far.
-use Rattle.std.proofs.Common.{◌≡◌, ◌≢◌, ℕ, ◌+◌, ◌<◌, ◌≤◌, ◌⊎◌, inl, inr, ◌↔◌, Option, Bool, true, false, get_or, sym, subst, arith, List, [], length, refl}
-use Rattle.std.proofs.Math.ListN.{set}
-use Rattle.std.proofs.lemmas.Bool.{cases_lt}
-use Rattle.std.proofs.lemmas.List.{get_or-set_same, get_or-set_other}
-use Rattle.pg_board.specs.Bits.{has, has-none}
-use Rattle.pg_board.specs.Men.{other}
-use Rattle.pg_board.specs.Placement.{Placement}
-use Rattle.pg_board.specs.SquareSets.{IsSetOf}
-use Rattle.pg_position.specs.declared.rights.Wing.{Wing}
-use Rattle.pg_journeys.specs.declared.side.Side.{Side}
-use Rattle.pg_journeys.specs.declared.plans.Walker.{Walker}
-use Rattle.pg_journeys.specs.Known.{landing}
-use Rattle.pg_journeys.specs.inner.Sides.{IsSide, AreRooms}
-use Rattle.pg_journeys.specs.inner.Deeds.{Lands, FallsOn, Changes}
-use Rattle.pg_journeys.specs.inner.Narrowed.{AreEnds, TakesToSome, FallsBy, ChangesBy, IsFull}
-use Rattle.pg_journeys.specs.inner.Costing.{walker_of}
-use Rattle.pg_journeys.specs.inner.Showing.{HasRooms}
-use Rattle.std.proofs.Math.Logic.{∥∥₁_map}
-use Rattle.pg_board.specs.lemmas.Decisions.{dec_and, dec_less}
+use Rattle.pg_journeys.proofs.Common.{◌≡◌, ◌≢◌, ℕ, ◌+◌, ◌<◌, ◌≤◌, ◌⊎◌, inl, inr, ◌↔◌, Option, Bool, true, false, get_or, sym, subst, arith, List, [], length, refl, set, cases_lt, get_or-set_same, get_or-set_other, has, has-none, other, Placement, IsSetOf, Wing, Side, Walker, landing, IsSide, AreRooms, Lands, FallsOn, Changes, AreEnds, TakesToSome, FallsBy, ChangesBy, IsFull, walker_of, HasRooms, ∥∥₁_map, dec_and, dec_less}
 use Rattle.pg_journeys.proofs.SideLemmas.{decided, dec_end}
 use Rattle.pg_journeys.proofs.SiftedSets.{IsJoined, join_next, join_none, join_full}
 use Rattle.pg_journeys.proofs.NarrowedPlans.{LandsOf, FallsOf, IsAsked, ends_are, lands_known, falls_known, lands_found, lands_back, falls_found, falls_back, changes_found, changes_back, lands_change, falls_change}

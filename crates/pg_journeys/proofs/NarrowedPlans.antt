@@ -1,37 +1,7 @@
 -- What the counts of paths of one man within his rooms tell of plans: where he takes, where he is captured, and where he changes.
-use Rattle.std.proofs.Common.{◌≡◌, ◌≢◌, ℕ, ◌+◌, ◌-◌, ◌<◌, ◌≤◌, ◌⊎◌, inl, inr, Option, Some, None, Bool, true, false, cond, ◌&&◌, get_or, refl, sym, ap, subst, arith, ◌∙◌, List, [], ◌∷◌}
-use Rattle.std.proofs.lemmas.Bool.{cases_eq}
-use Rattle.pg_board.specs.Bits.{has}
-use Rattle.pg_board.specs.declared.man.Color.{Color}
-use Rattle.pg_board.specs.declared.man.Color.TheVariants.{White, Black}
-use Rattle.pg_board.specs.declared.man.Kind.{Kind}
-use Rattle.pg_board.specs.declared.man.Kind.TheVariants.{Pawn, Knight, Bishop, Rook, Queen, King}
-use Rattle.pg_board.specs.Men.{other}
-use Rattle.pg_board.specs.Squares.{file, rank}
-use Rattle.pg_board.specs.Placement.{Placement}
-use Rattle.pg_board.specs.lemmas.Decisions.{dec_kind}
-use Rattle.pg_position.specs.declared.rights.Wing.{Wing}
-use Rattle.pg_position.specs.declared.rights.Wing.TheVariants.{KingSide, QueenSide}
-use Rattle.pg_position.specs.Position.{Stands, PawnsClause}
-use Rattle.pg_position.specs.Squares.{king_home, rook_home}
-use Rattle.pg_captures.specs.lemmas.BoardLemmas.{same_kind}
-use Rattle.pg_travel.specs.Origins.{counted}
-use Rattle.pg_travel.specs.lemmas.OriginsLemmas.{counted_other}
-use Rattle.pg_journeys.specs.Facts.{Facts}
-use Rattle.pg_journeys.specs.Journeys.{Leg, IsLeg, IsPath, may_take, Fate, Arrives, Falls, HasTake}
-use Rattle.pg_journeys.specs.Known.{landing}
-use Rattle.pg_journeys.specs.PlanCosts.{InColumn}
-use Rattle.pg_journeys.specs.lemmas.Turns.{leg}
+use Rattle.pg_journeys.proofs.Common.{◌≡◌, ◌≢◌, ℕ, ◌+◌, ◌-◌, ◌<◌, ◌≤◌, ◌⊎◌, inl, inr, Option, Some, None, Bool, true, false, cond, ◌&&◌, get_or, refl, sym, ap, subst, arith, ◌∙◌, List, [], ◌∷◌, cases_eq, has, Color, White, Black, Kind, Pawn, Knight, Bishop, Rook, Queen, King, other, file, rank, Placement, dec_kind, Wing, KingSide, QueenSide, Stands, PawnsClause, king_home, rook_home, same_kind, counted, counted_other, Facts, Leg, IsLeg, IsPath, may_take, Fate, Arrives, Falls, HasTake, landing, InColumn, leg, weigh, Side, Runner, counts, ComesTaking, runner_of, walker_of, facts_of, square_at, kind_at, IsSide, IsEnd, EndWithin, AreRooms, JourneysOf, IsPaidBy, MeetsAt, InEnd, Changes, AreEnds, TakesBy, TakesToSome, StandsBy, PassedBy, FallsBy, ComesBack, ChangesBy}
 use Rattle.pg_journeys.specs.lemmas.Takings.{ahead_may_not}
-use Rattle.pg_journeys.specs.lemmas.DecidingPaths.{weigh}
 use Rattle.pg_journeys.specs.lemmas.ColumnsOfPlans.{HasColumns, columns_of_plan}
-use Rattle.pg_journeys.specs.declared.side.Side.{Side}
-use Rattle.pg_journeys.specs.declared.rings.Runner.{Runner}
-use Rattle.pg_journeys.specs.inner.Counting.{counts, ComesTaking}
-use Rattle.pg_journeys.specs.inner.Costing.{runner_of, walker_of}
-use Rattle.pg_journeys.specs.inner.Sides.{facts_of, square_at, kind_at, IsSide, IsEnd, EndWithin, AreRooms, JourneysOf, IsPaidBy, MeetsAt, InEnd}
-use Rattle.pg_journeys.specs.inner.Deeds.{Changes}
-use Rattle.pg_journeys.specs.inner.Narrowed.{AreEnds, TakesBy, TakesToSome, StandsBy, PassedBy, FallsBy, ComesBack, ChangesBy}
 use Rattle.pg_journeys.proofs.CostLemmas.{end_more}
 use Rattle.pg_journeys.proofs.FrontLemmas.{not_both}
 use Rattle.pg_journeys.proofs.PathsInTwo.{InTwo, path_in_two, InOne, path_in_one, no_pawn_back, stays_piece}

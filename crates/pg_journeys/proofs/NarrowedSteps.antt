@@ -1,40 +1,12 @@
 -- Where a man comes back to by a step and on from there, and which squares two sets share. Leads to the contracts of `in_both`,
 -- `comes_by`, `takes_back` and `comes_back`.
-use Rattle.std.proofs.Common.{◌≡◌, ◌≢◌, ◌↔◌, ℕ, ◌+◌, ◌-◌, ◌<◌, ◌≤◌, ◌⊎◌, inl, inr, IsTrue, Bool, true, false, cond, ◌&&◌, ◌||◌, List, get_or, refl, sym, subst, ◌∙◌, arith}
-use Rattle.std.proofs.lemmas.Bool.{and_from, or_cases, or_left, or_right, cases_Bool, cases_eq, cases_lt}
-use Rattle.pg_board.specs.Bits.{has}
-use Rattle.pg_board.specs.declared.man.Kind.{Kind}
-use Rattle.pg_board.specs.declared.man.Kind.TheVariants.{Pawn, Knight, Bishop, Rook, Queen, King}
-use Rattle.pg_board.specs.Men.{number_of_kind}
-use Rattle.pg_board.specs.SquareSets.{IsSetOf, HasNoneFrom, Meet}
-use Rattle.pg_board.specs.declared.man.Color.{Color}
-use Rattle.pg_journeys.specs.Facts.{Facts}
-use Rattle.pg_journeys.specs.Journeys.{IsLeg}
-use Rattle.pg_journeys.specs.Known.{landing}
-use Rattle.pg_journeys.specs.lemmas.Turns.{leg}
-use Rattle.pg_journeys.specs.inner.Counts.{of_kind}
-use Rattle.pg_journeys.specs.inner.Rings.{AreRings, AreWithin, TakesWithin}
-use Rattle.pg_journeys.specs.inner.Reached.{TakesAfter, IsReach}
-use Rattle.pg_journeys.specs.inner.Sides.{facts_of, EndWithin}
-use Rattle.pg_journeys.specs.inner.Narrowed.{IsInBoth, TakesAt, TakesTo, ComesBy, TakesBack, ComesBack}
-use Rattle.pg_journeys.specs.declared.side.Side.{Side}
-use Rattle.pg_journeys.specs.declared.rings.Runner.{Runner}
-use Rattle.pg_journeys.specs.declared.rings.Rings.{Rings}
+use Rattle.pg_journeys.proofs.Common.{◌≡◌, ◌≢◌, ◌↔◌, ℕ, ◌+◌, ◌-◌, ◌<◌, ◌≤◌, ◌⊎◌, inl, inr, IsTrue, Bool, true, false, cond, ◌&&◌, ◌||◌, List, get_or, refl, sym, subst, ◌∙◌, arith, and_from, or_cases, or_left, or_right, cases_Bool, cases_eq, cases_lt, has, Kind, Pawn, Knight, Bishop, Rook, Queen, King, number_of_kind, IsSetOf, HasNoneFrom, Meet, Color, Facts, IsLeg, landing, leg, of_kind, AreRings, AreWithin, TakesWithin, TakesAfter, IsReach, facts_of, EndWithin, IsInBoth, TakesAt, TakesTo, ComesBy, TakesBack, ComesBack, Side, Runner, Rings, and_parts, kind_low}
 use Rattle.pg_journeys.specs.declared.rings.Reach.{Reach}
 use Rattle.pg_journeys.proofs.RingLemmas.{takes_is}
 use Rattle.pg_journeys.proofs.CostLemmas.{end_more}
-use Rattle.pg_journeys.proofs.PathsInTwo.{and_both}
 use Rattle.pg_journeys.proofs.SiftedSets.{IsJoined}
 
 -- ---- kinds by their numbers
-number_low : (k : Kind) → number_of_kind k < 6
-number_low Pawn = omega arith
-number_low Knight = omega arith
-number_low Bishop = omega arith
-number_low Rook = omega arith
-number_low Queen = omega arith
-number_low King = omega arith
-
 -- what holds for a number of a kind holds for a kind
 kind_with : (k : ℕ) → k < 6 → (j : Kind) × (number_of_kind j ≡ k)
 kind_with k low = elim (cases_eq k 0) [
@@ -60,7 +32,7 @@ HaveAt one other k q = (has (get_or one k 0) q ≡ true) × (has (get_or other k
 
 pub both_have : (one other : List ℕ) (a b both q k : ℕ) → a ≡ get_or one k 0 → b ≡ get_or other k 0 → has both q ≡ (has a q && has b q) → (has both q ≡ true) ↔ HaveAt one other k q
 both_have one other a b both q k ea eb e = (
-  λ t. (let w : (has a q ≡ true) × (has b q ≡ true) = and_both (has a q) (has b q) (sym e ∙ t) in
+  λ t. (let w : (has a q ≡ true) × (has b q ≡ true) = and_parts (has a q) (has b q) (sym e ∙ t) in
       (subst (λ (n : ℕ). has n q ≡ true) ea w.0, subst (λ (n : ℕ). has n q ≡ true) eb w.1)),
   λ w. e ∙ and_from (has a q) (has b q) (subst (λ (n : ℕ). has n q ≡ true) (sym ea) w.0) (subst (λ (n : ℕ). has n q ≡ true) (sym eb) w.1),
 )
@@ -72,7 +44,7 @@ all_kinds one other old n all none six h q l = (
     | inr w ↦ (let low : w.0 < n = w.1 in let j : (j : Kind) × (number_of_kind j ≡ w.0) = kind_with w.0 (omega arith) in
         (j.0, subst (λ (k : ℕ). has (get_or one k 0) q ≡ true) (sym j.1) w.2.0, subst (λ (k : ℕ). has (get_or other k 0) q ≡ true) (sym j.1) w.2.1))
   ],
-  λ w. (h q l).1 (inr (number_of_kind w.0, (let low : number_of_kind w.0 < 6 = number_low w.0 in omega arith), (w.1, w.2))),
+  λ w. (h q l).1 (inr (number_of_kind w.0, (let low : number_of_kind w.0 < 6 = kind_low w.0 in omega arith), (w.1, w.2))),
 )
 
 -- ---- what loops gather
@@ -138,7 +110,7 @@ pub takes_on : (x : Side) (m : Runner) (e room steps lands both : ℕ) (b : Bool
     IsTrue b ↔ ComesBy x m e room both → IsTrue b ↔ TakesBack x m e room steps
 takes_on x m e room steps lands both b on same made is = (
   λ t. (let w : ComesBy x m e room both = is.0 t in
-      let h : (has steps w.0 ≡ true) × (has lands w.0 ≡ true) = and_both (has steps w.0) (has lands w.0) (sym (made w.0) ∙ w.2) in
+      let h : (has steps w.0 ≡ true) × (has lands w.0 ≡ true) = and_parts (has steps w.0) (has lands w.0) (sym (made w.0) ∙ w.2) in
       (on, w.0, w.1, h.0, subst (λ (y : ℕ). has y w.0 ≡ true) same h.1, w.3)),
   λ w. is.1 (w.1, w.2, made w.1 ∙ and_from (has steps w.1) (has lands w.1) w.3 (subst (λ (y : ℕ). has y w.1 ≡ true) (sym same) w.4), w.5),
 )
@@ -171,7 +143,7 @@ module _ (x : Side) (m : Runner) (e room steps : ℕ) (are : IsSetOf steps (λ t
   pub back_parts : ComesBack x m e room → TakesBack x m e room steps ⊎ ((0 < room) × ComesBy x m e (room - 1) steps)
   back_parts (t, low, is, n, within, sum) = elim (cases_Bool (m.is_quiet && has (landing x.terrain.facts x.terrain.color) t)) [
     | inl on ↦
-        (let h : (m.is_quiet ≡ true) × (has (landing x.terrain.facts x.terrain.color) t ≡ true) = and_both m.is_quiet (has (landing x.terrain.facts x.terrain.color) t) on in
+        (let h : (m.is_quiet ≡ true) × (has (landing x.terrain.facts x.terrain.color) t ≡ true) = and_parts m.is_quiet (has (landing x.terrain.facts x.terrain.color) t) on in
         inl (h.0, t, low, (are t low).1 is, h.1, end_more x m.is_quiet e n room m.kind t (paid_none (m.is_quiet && has (landing x.terrain.facts x.terrain.color) t) n room sum) within))
     | inr off ↦
         (let h : (0 < room) × (n ≤ room - 1) = paid_one (m.is_quiet && has (landing x.terrain.facts x.terrain.color) t) n room off sum in

@@ -1,25 +1,7 @@
 -- The first facts, and those of the next round, as sets of squares. Leads to the contracts of rounds.rt.
-use Rattle.std.proofs.Common.{◌≡◌, ℕ, ◌<◌, ◌⊎◌, ◌↔◌, ◌&&◌, not, inl, inr, Option, Some, None, Bool, true, false, refl, sym, ap, subst, ◌∙◌, IsTrue}
-use Rattle.pg_board.specs.Bits.{has}
-use Rattle.pg_board.specs.declared.man.Color.{Color}
-use Rattle.pg_board.specs.declared.man.Color.TheVariants.{White, Black}
-use Rattle.pg_board.specs.declared.man.Kind.{Kind}
-use Rattle.pg_board.specs.declared.man.Man.{Man}
-use Rattle.pg_board.specs.Men.{man, other, is_of, color_eq}
-use Rattle.pg_board.specs.Placement.{Placement, get}
-use Rattle.pg_board.specs.SquareSets.{IsSetOf, Meet}
-use Rattle.pg_position.specs.declared.rights.Wing.{Wing}
-use Rattle.pg_position.specs.declared.state.State.{State}
-use Rattle.pg_captures.specs.Owed.{victims}
-use Rattle.pg_journeys.specs.Walls.{IsWall}
-use Rattle.pg_journeys.specs.FirstFacts.{IsWallOf, AreFirst, HasWalls}
-use Rattle.pg_journeys.specs.Known.{known, landing}
-use Rattle.pg_journeys.specs.Plans.{Measure, Moves, QuietMoves, IsAlive}
-use Rattle.pg_journeys.specs.Narrowing.{IsNewStill, PlansToTake, PlansToFall}
-use Rattle.pg_journeys.specs.inner.Showing.{Shows, lands_by, falls_by}
-use Rattle.pg_journeys.specs.inner.Walking.{IsKept, MayLand, IsNext}
+use Rattle.pg_journeys.proofs.Common.{◌≡◌, ℕ, ◌<◌, ◌⊎◌, ◌↔◌, ◌&&◌, not, inl, inr, Option, Some, Bool, true, false, refl, sym, ap, subst, ◌∙◌, IsTrue, has, Color, White, Black, Kind, man, other, is_of, color_eq, Placement, get, IsSetOf, Meet, Wing, State, victims, IsWall, IsWallOf, AreFirst, HasWalls, known, landing, Measure, Moves, QuietMoves, IsAlive, IsNewStill, PlansToTake, PlansToFall, Shows, lands_by, falls_by, IsKept, MayLand, Shown, not-true, not_from_false, of_man}
+use Rattle.pg_journeys.specs.inner.Walking.{IsNext}
 use Rattle.pg_journeys.specs.declared.facts.Facts.{Facts as FactSets}
-use Rattle.pg_journeys.specs.declared.shown.Shown.{Shown}
 
 -- ---- tests
 both_of : (r a b : Bool) → r ≡ (a && b) → r ≡ true → (a ≡ true) × (b ≡ true)
@@ -29,14 +11,6 @@ both_of r false b e h = cc
 
 of_both : (r a b : Bool) → r ≡ (a && b) → a ≡ true → b ≡ true → r ≡ true
 of_both r a b e h g = cc
-
-is_off : (b : Bool) → not b ≡ true → b ≡ false
-is_off true h = cc
-is_off false h = refl
-
-to_off : (b : Bool) → b ≡ false → not b ≡ true
-to_off true h = cc
-to_off false h = refl
 
 true_false : {A : Type 0} (b : Bool) → b ≡ true → b ≡ false → A
 true_false b h g = cc
@@ -52,8 +26,8 @@ first_of d g p b w x y eg eb walls white black =
 
 pub walls_kept : (d g : Placement) (p : State) (b : Placement) (w diff : ℕ) (m : Bool) → g ≡ d → b ≡ p.board → IsSetOf w (IsWallOf g) → ((q : ℕ) → q < 64 → (has diff q ≡ false) ↔ (get b q ≡ get g q)) → IsTrue m ↔ Meet w diff → IsTrue (not m) ↔ HasWalls d p
 walls_kept d g p b w diff m eg eb walls same meets = (
-  λ e c s low wall. here c s low (subst (λ (z : Placement). IsWall z c s) (sym eg) wall) (has diff s) refl (is_off m e),
-  λ h. to_off m (none h m refl),
+  λ e c s low wall. here c s low (subst (λ (z : Placement). IsWall z c s) (sym eg) wall) (has diff s) refl (not-true m e),
+  λ h. not_from_false m (none h m refl),
 )
   where
     here : (c : Color) (s : ℕ) → s < 64 → IsWall g c s → (t : Bool) → has diff s ≡ t → m ≡ false → IsWall p.board c s
@@ -70,19 +44,9 @@ walls_kept d g p b w diff m eg eb walls same meets = (
         true_false (has diff at.0) at.3 ((same at.0 at.1).1 alike))
 
 -- ---- who is kept
-color_same : (a c : Color) → color_eq a c ≡ true → a ≡ c
-color_same White White e = refl
-color_same Black Black e = refl
-color_same White Black e = cc
-color_same Black White e = cc
-
 own_color : (c : Color) → color_eq c c ≡ true
 own_color White = refl
 own_color Black = refl
-
-man_there : (c : Color) (o : Option Man) → is_of c o ≡ true → (j : Kind) × (o ≡ Some (man c j))
-man_there c None e = absurd (let h : false ≡ true = e in cc)
-man_there c (Some m) e = (m.kind, ap (λ (x : Color). Some (man x m.kind)) (color_same m.color c e))
 
 pub kept_set : (d g b0 b : Placement) (c : Color) (own diff first changed r : ℕ) → g ≡ d → b0 ≡ b → ((q : ℕ) → q < 64 → has own q ≡ is_of c (get b0 q)) → ((q : ℕ) → q < 64 → (has diff q ≡ false) ↔ (get b0 q ≡ get g q)) → ((q : ℕ) → q < 64 → has first q ≡ (has own q && not (has diff q))) → ((q : ℕ) → q < 64 → has r q ≡ (has first q && not (has changed q))) → IsSetOf r (IsKept d b c changed)
 kept_set d g b0 b c own diff first changed r eg eb mine same one two =
@@ -92,14 +56,14 @@ kept_set d g b0 b c own diff first changed r eg eb mine same one two =
     forth q l e =
         let last : (has first q ≡ true) × (not (has changed q) ≡ true) = both_of (has r q) (has first q) (not (has changed q)) (two q l) e in
         let start : (has own q ≡ true) × (not (has diff q) ≡ true) = both_of (has first q) (has own q) (not (has diff q)) (one q l) last.0 in
-        let at : (j : Kind) × (get b0 q ≡ Some (man c j)) = man_there c (get b0 q) (sym (mine q l) ∙ start.0) in
-        (at.0, at.1, sym ((same q l).0 (is_off (has diff q) start.1)) ∙ at.1, is_off (has changed q) last.1)
+        let at : (j : Kind) × (get b0 q ≡ Some (man c j)) = of_man c (get b0 q) (sym (mine q l) ∙ start.0) in
+        (at.0, at.1, sym ((same q l).0 (not-true (has diff q) start.1)) ∙ at.1, not-true (has changed q) last.1)
 
     back : (q : ℕ) → q < 64 → IsKept g b0 c changed q → has r q ≡ true
     back q l (j, st, sd, off) =
         of_both (has r q) (has first q) (not (has changed q)) (two q l)
-        (of_both (has first q) (has own q) (not (has diff q)) (one q l) (mine q l ∙ ap (is_of c) st ∙ own_color c) (to_off (has diff q) ((same q l).1 (st ∙ sym sd))))
-        (to_off (has changed q) off)
+        (of_both (has first q) (has own q) (not (has diff q)) (one q l) (mine q l ∙ ap (is_of c) st ∙ own_color c) (not_from_false (has diff q) ((same q l).1 (st ∙ sym sd))))
+        (not_from_false (has changed q) off)
 
     here : IsSetOf r (IsKept g b0 c changed)
     here q l = (forth q l, back q l)
@@ -115,7 +79,7 @@ land_set before still own theirs a b c e r ha hb hc he hr q l = (forth, back)
         let z : (has b q ≡ true) × (has theirs.quiet_falls q ≡ true) = both_of (has c q) (has b q) (has theirs.quiet_falls q) (hc q) y.1 in
         let v : (has a q ≡ true) × (has theirs.falls q ≡ true) = both_of (has b q) (has a q) (has theirs.falls q) (hb q) z.0 in
         let w : (has own.lands q ≡ true) × (has own.quiet_lands q ≡ true) = both_of (has a q) (has own.lands q) (has own.quiet_lands q) (ha q) v.0 in
-        (y.0, is_off (has still q) x.1, by_measure w.0 v.1 w.1 z.1)
+        (y.0, not-true (has still q) x.1, by_measure w.0 v.1 w.1 z.1)
       where
         by_measure : has own.lands q ≡ true → has theirs.falls q ≡ true → has own.quiet_lands q ≡ true → has theirs.quiet_falls q ≡ true → (u : Measure) → (has (lands_by own u) q ≡ true) × (has (falls_by theirs u) q ≡ true)
         by_measure s t m n Moves = (s, t)
@@ -128,7 +92,7 @@ land_set before still own theirs a b c e r ha hb hc he hr q l = (forth, back)
         (of_both (has c q) (has b q) (has theirs.quiet_falls q) (hc q)
         (of_both (has b q) (has a q) (has theirs.falls q) (hb q) (of_both (has a q) (has own.lands q) (has own.quiet_lands q) (ha q) (by Moves).0 (by QuietMoves).0) (by Moves).1)
         (by QuietMoves).1))
-        (to_off (has still q) off)
+        (not_from_false (has still q) off)
 
 -- ---- the next round
 module _ (f : FactSets) (d : Placement) (p : State) (k : ℕ) (w b : Shown) (still white black : ℕ) (stills : IsSetOf still (λ s. (has f.still s ≡ true) ⊎ ((IsKept d p.board White w.changed s) ⊎ (IsKept d p.board Black b.changed s)))) (whites : IsSetOf white (MayLand f.white still w b)) (blacks : IsSetOf black (MayLand f.black still b w)) (sw : Shows (known f) d p k White w) (sb : Shows (known f) d p k Black b) where

@@ -1,34 +1,7 @@
 -- Where no capture may land each step is a quiet move, so that one measure tells both. Leads to the contracts of shown.rt.
-use Rattle.std.proofs.Common.{◌≡◌, ℕ, ◌<◌, ◌≤◌, ◌⊎◌, inl, inr, Option, None, Bool, true, false, List, [], ◌∷◌, get_or, refl, sym, ap, subst, arith, ◌∙◌}
-use Rattle.std.proofs.lemmas.Bool.Decides.{eqb_tells}
-use Rattle.pg_board.specs.declared.man.Color.{Color}
-use Rattle.pg_board.specs.declared.man.Kind.{Kind}
-use Rattle.pg_board.specs.declared.man.Kind.TheVariants.{Pawn}
-use Rattle.pg_board.specs.Placement.{Placement}
-use Rattle.pg_board.specs.Squares.{file}
-use Rattle.pg_board.specs.SquareSets.{HasNoneFrom}
-use Rattle.pg_board.specs.lemmas.Decisions.{dec_kind}
-use Rattle.pg_board.proofs.SetLemmas.{set_like}
-use Rattle.pg_position.specs.declared.rights.Wing.{Wing}
-use Rattle.pg_travel.specs.Origins.{counted}
-use Rattle.pg_assignments.specs.declared.costs.Costs.{Costs}
-use Rattle.pg_assignments.specs.Assignments.{cost}
-use Rattle.pg_journeys.specs.Facts.{Facts}
-use Rattle.pg_journeys.specs.Known.{landing}
-use Rattle.pg_journeys.specs.Journeys.{Leg, IsLeg, IsPath, may_take, Fate, Arrives, Falls, Meets, HasTake}
-use Rattle.pg_journeys.specs.lemmas.DecidingPaths.{weigh}
-use Rattle.pg_journeys.specs.lemmas.Turns.{leg}
-use Rattle.pg_journeys.specs.inner.Counting.{counts}
-use Rattle.pg_journeys.specs.inner.Sides.{facts_of, square_at, kind_at, IsSide, EndWithin, AreAims, aim_at, AreRooms, JourneysOf, IsPaidBy, MeetsAt, InEnd}
-use Rattle.pg_journeys.specs.inner.Deeds.{Lands, FallsOn, Changes, AreDeeds}
+use Rattle.pg_journeys.proofs.Common.{◌≡◌, ℕ, ◌<◌, ◌≤◌, ◌⊎◌, inl, inr, Option, None, Bool, true, false, List, [], ◌∷◌, get_or, refl, sym, ap, subst, arith, ◌∙◌, eqb_tells, Color, Kind, Pawn, Placement, file, HasNoneFrom, dec_kind, set_like, Wing, counted, Costs, cost, Facts, landing, Leg, IsLeg, IsPath, may_take, Fate, Arrives, Falls, Meets, HasTake, weigh, leg, counts, facts_of, square_at, kind_at, IsSide, EndWithin, AreAims, aim_at, AreRooms, JourneysOf, IsPaidBy, MeetsAt, InEnd, Lands, FallsOn, Changes, AreDeeds, IsSameBy, IsCountTo, AreCostRows, AreCostsOf, Side, Deeds, Measured, Rings}
 use Rattle.pg_journeys.specs.inner.Measures.{AreMeasures}
-use Rattle.pg_journeys.specs.inner.Showing.{IsSameBy}
 use Rattle.pg_journeys.proofs.MeasuredLemmas.{measured_aims, measured_rows}
-use Rattle.pg_journeys.specs.inner.Costing.{IsCountTo, AreCostRows, AreCostsOf}
-use Rattle.pg_journeys.specs.declared.side.Side.{Side}
-use Rattle.pg_journeys.specs.declared.narrowing.Deeds.{Deeds}
-use Rattle.pg_journeys.specs.declared.measured.Measured.{Measured}
-use Rattle.pg_journeys.specs.declared.rings.Rings.{Rings}
 use Rattle.pg_journeys.proofs.EndLemmas.{rings_as}
 use Rattle.pg_journeys.proofs.StepLemmas.{piece_takes, push_takes_not, quiet_counts, leg_low}
 

@@ -1,17 +1,5 @@
 -- Paths in two: to a step that may be a capture, and on from there; and where a pawn's path leads.
-use Rattle.std.proofs.Common.{◌≡◌, ◌≢◌, ℕ, suc, ◌+◌, ◌<◌, ◌≤◌, inl, inr, Bool, true, false, ◌&&◌, nat_eq, refl, sym, ap, subst, arith, ◌∙◌, List, [], ◌∷◌, ◌++◌, length, eqb-true}
-use Rattle.std.proofs.lemmas.Bool.{or_left, or_right, or_cases, and_from, eq-eqb}
-use Rattle.pg_board.specs.declared.man.Color.{Color}
-use Rattle.pg_board.specs.declared.man.Color.TheVariants.{White, Black}
-use Rattle.pg_board.specs.declared.man.Kind.{Kind}
-use Rattle.pg_board.specs.declared.man.Kind.TheVariants.{Pawn, Knight, Bishop, Rook, Queen, King}
-use Rattle.pg_board.specs.Squares.{rank}
-use Rattle.pg_position.specs.Geometry.{IsForward, InPattern}
-use Rattle.pg_captures.specs.FreeSteps.{StepsTo, Becomes}
-use Rattle.pg_journeys.specs.Facts.{Facts}
-use Rattle.pg_journeys.specs.Journeys.{Leg, IsPath, may_take, some_leg, takes_to, HasTake}
-use Rattle.pg_journeys.specs.lemmas.DecidingPaths.{weigh}
-use Rattle.pg_journeys.specs.inner.Counting.{counts, ComesTaking}
+use Rattle.pg_journeys.proofs.Common.{◌≡◌, ◌≢◌, ℕ, suc, ◌+◌, ◌<◌, ◌≤◌, inl, inr, Bool, true, false, ◌&&◌, nat_eq, refl, sym, ap, subst, arith, ◌∙◌, List, [], ◌∷◌, ◌++◌, length, eqb-true, or_left, or_right, or_cases, and_from, eq-eqb, Color, White, Black, Kind, Pawn, Knight, Bishop, Rook, Queen, King, rank, IsForward, InPattern, StepsTo, Becomes, Facts, Leg, IsPath, may_take, some_leg, takes_to, HasTake, weigh, counts, ComesTaking, and_parts}
 
 -- ---- one path after another
 pub weigh_join : (w : Leg → ℕ) (ls ms : List Leg) → weigh w (ls ++ ms) ≡ weigh w ls + weigh w ms
@@ -21,10 +9,6 @@ weigh_join w (l ∷ ls) ms = omega (arith, weigh_join w ls ms)
 some_join : (b : Leg → Bool) (ls : List Leg) (l : Leg) (ms : List Leg) → b l ≡ true → some_leg b (ls ++ (l ∷ ms)) ≡ true
 some_join b [] l ms e = or_left (b l) (some_leg b ms) e
 some_join b (x ∷ ls) l ms e = or_right (b x) (some_leg b (ls ++ (l ∷ ms))) (some_join b ls l ms e)
-
-pub and_both : (a b : Bool) → (a && b) ≡ true → (a ≡ true) × (b ≡ true)
-and_both true b e = (refl, e)
-and_both false b e = absurd (cc)
 
 module _ (f : Facts) (c : Color) where
   path_join : (ls : List Leg) (k : Kind) (r : ℕ) (i : Kind) (u : ℕ) (ms : List Leg) (j : Kind) (s : ℕ) → IsPath f c k r ls i u → IsPath f c i u ms j s → IsPath f c k r (ls ++ ms) j s
@@ -40,7 +24,7 @@ module _ (f : Facts) (c : Color) where
   path_in_two quiet q [] k r j s path take = absurd (let z : false ≡ true = take in cc)
   path_in_two quiet q (l ∷ ls) k r j s (a, d, is, more) take = elim (or_cases (takes_to f c q l) (some_leg (takes_to f c q) ls) take) [
     | inl here ↦
-        (let both : (nat_eq l.to q ≡ true) × (may_take f c l ≡ true) = and_both (nat_eq l.to q) (may_take f c l) here in
+        (let both : (nat_eq l.to q ≡ true) × (may_take f c l ≡ true) = and_parts (nat_eq l.to q) (may_take f c l) here in
         let e : l.to ≡ q = eqb-true l.to q both.0 in
         (l.into, counts f c quiet l, ls, ([], l, (sym a, sym d), is, both.1, refl, e, zero_more (counts f c quiet l)), subst (λ (y : ℕ). IsPath f c l.into y ls j s) e more, refl))
     | inr later ↦

@@ -1,24 +1,8 @@
 -- The steps of pawns as sets of squares. Leads to the contracts of a ground's pushes and captures.
-use Rattle.std.proofs.Common.{arith, ◌≡◌, ◌≢◌, ◌↔◌, ℕ, ◌+◌, ◌-◌, ◌<◌, ◌≤◌, ◌⊎◌, inl, inr, true, false, ◌&&◌, ◌||◌, refl, sym, ap, ◌∙◌}
-use Rattle.std.proofs.lemmas.Bool.Decides.{eqb_tells, leb_tells}
-use Rattle.pg_board.specs.declared.man.Color.{Color}
-use Rattle.pg_board.specs.declared.man.Color.TheVariants.{White, Black}
-use Rattle.pg_board.specs.declared.man.Kind.{Kind}
-use Rattle.pg_board.specs.declared.man.Kind.TheVariants.{Pawn, Queen}
-use Rattle.pg_board.specs.Bits.{has}
-use Rattle.pg_board.specs.Men.{other}
-use Rattle.pg_board.specs.Squares.{file, rank}
-use Rattle.pg_board.specs.SquareSets.{IsSetOf}
-use Rattle.pg_board.proofs.SetLemmas.{and_true, set_like, set_of_both, set_of_union}
-use Rattle.pg_position.specs.Geometry.{InPattern, IsForward, IsBetween}
-use Rattle.pg_position.specs.Squares.{home_rank, last_rank}
+use Rattle.pg_journeys.proofs.Common.{arith, ◌≡◌, ◌≢◌, ◌↔◌, ℕ, ◌+◌, ◌-◌, ◌<◌, ◌≤◌, ◌⊎◌, inl, inr, true, false, ◌&&◌, ◌||◌, refl, sym, ap, ◌∙◌, eqb_tells, leb_tells, Color, White, Black, Kind, Pawn, Queen, has, other, file, rank, IsSetOf, and_true, set_like, set_of_both, set_of_union, InPattern, IsForward, IsBetween, home_rank, last_rank, StepsTo, Becomes, Facts, LedTo, Pushes, Captures, IsAheadOf, IsEastOf, IsWestOf, and_from}
 use Rattle.pg_position.proofs.LineLemmas.{pawn_near}
-use Rattle.pg_captures.specs.FreeSteps.{StepsTo, Becomes}
-use Rattle.pg_journeys.proofs.SquareLemmas.{both_true}
-use Rattle.pg_journeys.specs.Facts.{Facts}
 use Rattle.pg_journeys.specs.lemmas.Shifts.{one_near}
-use Rattle.pg_journeys.specs.inner.Grounds.{LedTo, Pushes, Captures}
-use Rattle.pg_journeys.specs.inner.Makings.{IsNext, IsAheadOf, IsEastOf, IsWestOf}
+use Rattle.pg_journeys.specs.inner.Makings.{IsNext}
 
 -- ---- squares ahead
 next_back : (c : Color) (r s : ℕ) → IsNext c r s → IsNext (other c) s r
@@ -178,8 +162,8 @@ module _ (f : Facts) (c : Color) (free : ℕ) (vacant : AreFree f free) where
             (r, x.0.1, e.0, twice_is r s x.0.1 ls ((home r x.0.1).0 d.1) (e.1, y.1, (y.0.0, y.0.1, x.1, x.0.3, y.0.3))))
       ])
       (λ s ls (r, lr, on, p). elim (pushes_told r s lr ls p) [
-        | inl (fr, fs, next) ↦ inl ((r, lr, froms r ∙ both_true (has set r) (has free r) on fr, next), fs)
-        | inr (at, (fr, fs, (x, lx, fx, first, then))) ↦ inr ((x, lx, (cross x lx).1 ((r, lr, homeds r ∙ both_true (has from r) (has homes r) (froms r ∙ both_true (has set r) (has free r) on fr) ((home r lr).1 at), first), fx), then), fs)
+        | inl (fr, fs, next) ↦ inl ((r, lr, froms r ∙ and_from (has set r) (has free r) on fr, next), fs)
+        | inr (at, (fr, fs, (x, lx, fx, first, then))) ↦ inr ((x, lx, (cross x lx).1 ((r, lr, homeds r ∙ and_from (has from r) (has homes r) (froms r ∙ and_from (has set r) (has free r) on fr) ((home r lr).1 at), first), fx), then), fs)
       ])
       (set_of_union n once twice is one two)
 
@@ -196,8 +180,8 @@ module _ (f : Facts) (c : Color) (free : ℕ) (vacant : AreFree f free) where
             (s, x.0.1, e.0, twice_is r s lr x.0.1 y.1 (y.0.1, e.1, (y.0.0.0, y.0.0.1, x.1, next_forth c r y.0.0.0 y.0.0.3, next_forth c y.0.0.0 s x.0.3))))
       ])
       (λ r lr (s, ls, on, p). elim (pushes_told r s lr ls p) [
-        | inl (fr, fs, next) ↦ inl ((s, ls, tos s ∙ both_true (has set s) (has free s) on fs, next_back c r s next), fr)
-        | inr (at, (fr, fs, (x, lx, fx, first, then))) ↦ inr (((x, lx, (one x lx).1 ((s, ls, tos s ∙ both_true (has set s) (has free s) on fs, next_back c x s then), fx), next_back c r x first), fr), at)
+        | inl (fr, fs, next) ↦ inl ((s, ls, tos s ∙ and_from (has set s) (has free s) on fs, next_back c r s next), fr)
+        | inr (at, (fr, fs, (x, lx, fx, first, then))) ↦ inr (((x, lx, (one x lx).1 ((s, ls, tos s ∙ and_from (has set s) (has free s) on fs, next_back c x s then), fx), next_back c r x first), fr), at)
       ])
       (set_of_union n once homed is one (set_of_both homed twice homes homeds two home))
 
@@ -207,7 +191,7 @@ module _ (f : Facts) (c : Color) (free : ℕ) (vacant : AreFree f free) where
   taken_ahead set from struck kept lands n froms hits keeps land is = set_like n
       (λ s ls ((h, fs), on). (let e : (has set h.0 ≡ true) × (has free h.0 ≡ true) = and_true (has set h.0) (has free h.0) (sym (froms h.0) ∙ h.2) in
       (h.0, h.1, e.0, takes_is h.0 s h.1 ls (e.1, fs, land s ∙ on, h.3))))
-      (λ s ls (r, lr, on, p). (let t : Takes r s = captures_told r s lr ls p in (((r, lr, froms r ∙ both_true (has set r) (has free r) on t.0, t.3), t.1), sym (land s) ∙ t.2)))
+      (λ s ls (r, lr, on, p). (let t : Takes r s = captures_told r s lr ls p in (((r, lr, froms r ∙ and_from (has set r) (has free r) on t.0, t.3), t.1), sym (land s) ∙ t.2)))
       (set_of_both n kept lands is (set_of_both kept struck free keeps hits (λ q _. (λ t. t, λ t. t))) (λ q _. (λ t. t, λ t. t)))
 
   pub taken_back : (set vacated lands to struck n : ℕ) → ((q : ℕ) → has vacated q ≡ has set q && has free q) → ((q : ℕ) → f.lands c q ≡ has lands q) → ((q : ℕ) → has to q ≡ has vacated q && has lands q) →
@@ -218,7 +202,7 @@ module _ (f : Facts) (c : Color) (free : ℕ) (vacant : AreFree f free) where
       let e : (has set h.0 ≡ true) × (has free h.0 ≡ true) = and_true (has set h.0) (has free h.0) (sym (frees h.0) ∙ d.0) in
       (h.0, h.1, e.0, takes_is r h.0 lr h.1 (fr, e.1, land h.0 ∙ d.1, turned_back c r h.0 h.3))))
       (λ r lr (s, ls, on, p). (let t : Takes r s = captures_told r s lr ls p in
-      ((s, ls, tos s ∙ both_true (has vacated s) (has lands s) (frees s ∙ both_true (has set s) (has free s) on t.1) (sym (land s) ∙ t.2), turned c r s t.3), t.0)))
+      ((s, ls, tos s ∙ and_from (has vacated s) (has lands s) (frees s ∙ and_from (has set s) (has free s) on t.1) (sym (land s) ∙ t.2), turned c r s t.3), t.0)))
       (set_of_both n struck free is hits (λ q _. (λ t. t, λ t. t)))
 
 -- ---- what is struck

@@ -1,17 +1,7 @@
 -- Pawns that come to squares, as what they are there: five sets that are met or taken one after another.
-use Rattle.std.proofs.Common.{◌≡◌, ◌≢◌, ℕ, ◌<◌, ◌⊎◌, inl, inr, Bool, true, false, not, ◌&&◌, List, refl, sym, ◌∙◌}
-use Rattle.pg_board.specs.Bits.{has}
-use Rattle.pg_board.specs.declared.man.Color.{Color}
-use Rattle.pg_board.specs.declared.man.Kind.{Kind}
-use Rattle.pg_board.specs.declared.man.Kind.TheVariants.{Pawn, Knight, Bishop, Rook, Queen, King}
-use Rattle.pg_board.specs.Squares.{rank}
-use Rattle.pg_board.specs.SquareSets.{IsSetOf}
-use Rattle.pg_position.specs.Squares.{last_rank}
-use Rattle.pg_captures.specs.FreeSteps.{Becomes}
-use Rattle.pg_journeys.specs.inner.Fronts.{OnSet, PawnsOn, IsMeeting, IsJoined}
-use Rattle.pg_journeys.specs.inner.Reached.{AreGrown}
-use Rattle.pg_journeys.specs.declared.fronts.Front.{Front}
-use Rattle.pg_journeys.proofs.FrontLemmas.{on_or_off, not_both, and_first, and_second, and_both, not_true, not_false, meeting_as, meeting_then}
+use Rattle.pg_journeys.proofs.Common.{◌≡◌, ◌≢◌, ℕ, ◌<◌, ◌⊎◌, inl, inr, Bool, true, false, not, ◌&&◌, List, refl, sym, ◌∙◌, has, Color, Kind, Pawn, Knight, Bishop, Rook, Queen, King, rank, IsSetOf, last_rank, Becomes, OnSet, PawnsOn, IsMeeting, AreGrown, Front, cases_Bool, not-true, not_from_false, and_from}
+use Rattle.pg_journeys.specs.inner.Fronts.{IsJoined}
+use Rattle.pg_journeys.proofs.FrontLemmas.{not_both, and_first, and_second, meeting_as, meeting_then}
 use Rattle.pg_journeys.proofs.RingLemmas.{grown_as, grown_then, grown_set}
 
 -- a set in two parts: off the last rank, and on it
@@ -20,7 +10,7 @@ module _ (c : Color) (x last rest promoted r : ℕ) (is : r ≡ last_rank c) (ro
   unfolding Becomes
   pawn_on j t l e h =
       let both : has x t && not (has last t) ≡ true = sym (off t l) ∙ h in
-      let away : has last t ≡ false = not_true (has last t) (and_second (has x t) (not (has last t)) both) in
+      let away : has last t ≡ false = not-true (has last t) (and_second (has x t) (not (has last t)) both) in
       (and_first (has x t) (not (has last t)) both, inr ((λ y. not_both (has last t) ((row t l).1 (y ∙ sym is)) away), e))
 
   piece_on : (j k : Kind) (t : ℕ) → t < 64 → j ≡ k → k ≢ Pawn → k ≢ King → has promoted t ≡ true → (has x t ≡ true) × Becomes c Pawn t j
@@ -39,9 +29,9 @@ module _ (c : Color) (x last rest promoted r : ℕ) (is : r ≡ last_rank c) (ro
   parts_of : (j : Kind) (t : ℕ) → t < 64 → has x t ≡ true → Becomes c Pawn t j → Parts j t
   unfolding Becomes
   parts_of j t l h (inr (nr, e)) =
-      let away : has last t ≡ false = elim (on_or_off (has last t)) [ inl u ↦ absurd (nr ((row t l).0 u ∙ is)) | inr u ↦ u ] in
-      inl (e, off t l ∙ and_both (has x t) (not (has last t)) h (not_false (has last t) away))
-  parts_of j t l h (inl (e, (np, nk))) = inr (on t ∙ and_both (has x t) (has last t) h ((row t l).1 (e ∙ sym is)), which j np nk)
+      let away : has last t ≡ false = elim (cases_Bool (has last t)) [ inl u ↦ absurd (nr ((row t l).0 u ∙ is)) | inr u ↦ u ] in
+      inl (e, off t l ∙ and_from (has x t) (not (has last t)) h (not_from_false (has last t) away))
+  parts_of j t l h (inl (e, (np, nk))) = inr (on t ∙ and_from (has x t) (has last t) h ((row t l).1 (e ∙ sym is)), which j np nk)
     where
       which : (j : Kind) → j ≢ Pawn → j ≢ King → (j ≡ Knight) ⊎ ((j ≡ Bishop) ⊎ ((j ≡ Rook) ⊎ (j ≡ Queen)))
       which Pawn np nk = absurd (np refl)

@@ -1,23 +1,5 @@
 -- Plans by counts of paths and plans by plies are the same, and what they do. Leads to the contracts of shown.rt.
-use Rattle.std.proofs.Common.{◌≡◌, ℕ, ◌+◌, ◌<◌, ◌≤◌, ◌↔◌, Option, Bool, true, false, sym, subst, arith, ◌∙◌, List, length, ap, IsTrue}
-use Rattle.pg_board.specs.declared.man.Color.{Color}
-use Rattle.pg_board.specs.Tally.{total}
-use Rattle.pg_board.specs.Placement.{Placement}
-use Rattle.pg_board.specs.lemmas.Sums.{total_same}
-use Rattle.pg_position.specs.declared.rights.Wing.{Wing}
-use Rattle.pg_position.specs.declared.state.State.{State}
-use Rattle.pg_captures.specs.Owed.{plies_left, victims}
-use Rattle.pg_travel.specs.Origins.{charge}
-use Rattle.pg_journeys.specs.Facts.{Facts}
-use Rattle.pg_journeys.specs.Journeys.{Leg, HasTake, quiet, IsWayUnder}
-use Rattle.pg_journeys.specs.Plans.{Measure, Moves, QuietMoves, IsPaid, IsAlive}
-use Rattle.pg_journeys.specs.lemmas.DecidingPaths.{weigh}
-use Rattle.pg_journeys.specs.lemmas.Weights.{weigh_length, weigh_quiet}
-use Rattle.pg_journeys.specs.inner.Counting.{counts}
-use Rattle.pg_journeys.specs.inner.Sides.{facts_of, square_at, kind_at, IsSide, JourneysOf, IsPaidBy}
-use Rattle.pg_journeys.specs.inner.Deeds.{Lands, FallsOn}
-use Rattle.pg_journeys.specs.inner.Showing.{is_quiet, IsBudget, AreBudgets, TakesIn, FallsIn}
-use Rattle.pg_journeys.specs.declared.side.Side.{Side}
+use Rattle.pg_journeys.proofs.Common.{◌≡◌, ℕ, ◌+◌, ◌<◌, ◌≤◌, ◌↔◌, Option, Bool, true, false, sym, subst, arith, ◌∙◌, List, length, ap, IsTrue, Color, total, Placement, total_same, Wing, State, plies_left, victims, charge, Facts, Leg, HasTake, quiet, IsWayUnder, Measure, Moves, QuietMoves, IsPaid, IsAlive, weigh, weigh_length, weigh_quiet, counts, facts_of, square_at, kind_at, IsSide, JourneysOf, IsPaidBy, Lands, FallsOn, is_quiet, IsBudget, AreBudgets, TakesIn, FallsIn, Side}
 
 -- what paths count is what they cost by the measure
 pub all_counted : (f : Facts) (c : Color) (paths : ℕ → List Leg) → total (λ s. weigh (counts f c false) (paths s)) 64 ≡ total (λ s. length (paths s)) 64

@@ -1,22 +1,5 @@
 -- Without the men on a set of squares: what stands, and how many men are left.
-use Rattle.std.proofs.Common.{◌≡◌, ℕ, zero, suc, ◌+◌, ◌<◌, ◌≤◌, ◌↔◌, ◌⊎◌, inl, inr, Option, Some, None, Bool, true, false, cond, not, ◌&&◌, refl, sym, ap, arith, ◌∙◌}
-use Rattle.std.proofs.Math.Bool.{and-true, and-false}
-use Rattle.pg_board.specs.Bits.{has, has-none}
-use Rattle.pg_board.specs.declared.man.Color.{Color}
-use Rattle.pg_board.specs.declared.man.Kind.{Kind}
-use Rattle.pg_board.specs.declared.man.Kind.TheVariants.{Pawn}
-use Rattle.pg_board.specs.declared.man.Man.{Man}
-use Rattle.pg_board.specs.Men.{man, other, passes, is_of}
-use Rattle.pg_board.specs.Placement.{Placement, get, get-placement_of, same_placement}
-use Rattle.pg_board.specs.Tally.{total, one, tally, tally_below}
-use Rattle.pg_board.specs.lemmas.Sums.{total_same}
-use Rattle.pg_position.specs.declared.state.State.{State}
-use Rattle.pg_position.specs.Position.{Stands, parts, PawnsClause}
-use Rattle.pg_captures.specs.Counting.{of_color, men, any_man}
-use Rattle.pg_captures.specs.Owed.{victims}
-use Rattle.pg_journeys.specs.Facts.{Facts}
-use Rattle.pg_journeys.specs.inner.Resting.{lifted, lifted_from, AreResting, IsLess}
-use Rattle.pg_journeys.proofs.FrontLemmas.{on_or_off}
+use Rattle.pg_journeys.proofs.Common.{◌≡◌, ℕ, zero, suc, ◌+◌, ◌<◌, ◌≤◌, ◌↔◌, ◌⊎◌, inl, inr, Option, Some, None, Bool, true, false, cond, not, ◌&&◌, refl, sym, ap, arith, ◌∙◌, and-true, and-false, has, has-none, Color, Kind, Pawn, Man, man, other, passes, is_of, Placement, get, get-placement_of, same_placement, total, one, tally, tally_below, total_same, State, Stands, parts, PawnsClause, of_color, men, any_man, victims, Facts, lifted, lifted_from, AreResting, IsLess, cases_Bool}
 
 -- ---- what stands
 pub get_lifted : (b : Placement) (z s : ℕ) → s < 64 → get (lifted b z) s ≡ cond (has z s) None (get b s)
@@ -32,7 +15,7 @@ none_some : (m : Man) → None ≡ Some m → ⊥
 none_some m e = cc
 
 pub stands_lifted : (b : Placement) (z : ℕ) (c : Color) (k : Kind) (s : ℕ) → s < 64 → Stands (lifted b z) c k s ↔ (Stands b c k s × (has z s ≡ false))
-stands_lifted b z c k s low = (there (on_or_off (has z s)), λ h. lifted_left b z s low h.1 ∙ h.0)
+stands_lifted b z c k s low = (there (cases_Bool (has z s)), λ h. lifted_left b z s low h.1 ∙ h.0)
   where
     there : (has z s ≡ true) ⊎ (has z s ≡ false) → Stands (lifted b z) c k s → Stands b c k s × (has z s ≡ false)
     there (inl on) h = absurd (none_some (man c k) (sym (lifted_off b z s low on) ∙ h))
@@ -93,7 +76,7 @@ module _ (c : Color) (f : ℕ → Kind → Bool) (z : ℕ) where
   -- placements with the same men on the set lose as many
   pub lifted_alike : (b d : Placement) → ((s : ℕ) → s < 64 → has z s ≡ true → get d s ≡ get b s) → men c f b + men c f (lifted d z) ≡ men c f d + men c f (lifted b z)
   lifted_alike b d same =
-      let e : total (one_on d) 64 ≡ total (one_on b) 64 = total_same (one_on b) (one_on d) 64 (λ s low. same_on b d s (same s low) (on_or_off (has z s))) in
+      let e : total (one_on d) 64 ≡ total (one_on b) 64 = total_same (one_on b) (one_on d) 64 (λ s low. same_on b d s (same s low) (cases_Bool (has z s))) in
       omega (arith, men_parts b, men_parts d)
 
 pub lifted_victims : (f : Facts) (d : Placement) (p : State) (z : ℕ) (c : Color) → AreResting f d p z → victims c p.board + victims c (lifted d z) ≡ victims c d + victims c (lifted p.board z)

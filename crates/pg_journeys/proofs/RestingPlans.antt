@@ -1,27 +1,7 @@
 -- Men who rest take no step and are not captured in any plan, so plans with them and without them are the same.
-use Rattle.std.proofs.Common.{◌≡◌, ℕ, ◌+◌, ◌<◌, ◌≤◌, ◌↔◌, ◌⊎◌, inl, inr, Option, Some, None, Bool, true, false, cond, refl, sym, ap, subst, arith, ◌∙◌, List, [], ◌∷◌, length}
-use Rattle.std.proofs.lemmas.Bool.Decides.{eqb_tells}
-use Rattle.pg_board.specs.Bits.{has}
-use Rattle.pg_board.specs.declared.man.Color.{Color}
-use Rattle.pg_board.specs.declared.man.Kind.{Kind}
-use Rattle.pg_board.specs.Men.{other}
-use Rattle.pg_board.specs.Tally.{total}
-use Rattle.pg_board.specs.Placement.{Placement}
-use Rattle.pg_board.specs.lemmas.Sums.{total-le}
-use Rattle.pg_position.specs.declared.rights.Wing.{Wing}
-use Rattle.pg_position.specs.declared.state.State.{State}
-use Rattle.pg_position.specs.Position.{Stands}
-use Rattle.pg_position.specs.Squares.{king_home, rook_home, king_crossed, king_target}
+use Rattle.pg_journeys.proofs.Common.{◌≡◌, ℕ, ◌+◌, ◌<◌, ◌≤◌, ◌↔◌, ◌⊎◌, inl, inr, Option, Some, None, Bool, true, false, cond, refl, sym, ap, subst, arith, ◌∙◌, List, [], ◌∷◌, length, eqb_tells, has, Color, Kind, other, total, Placement, total-le, Wing, State, Stands, king_home, rook_home, king_crossed, king_target, plies_left, victims, charge, counted, counted_king, counted_rook, counted_other, Facts, Leg, IsPath, quiet, Fate, Arrives, Falls, Meets, IsWayUnder, Journeys, HasTake, Measure, Moves, QuietMoves, IsPaid, IsAlive, lifted, lifted_from, AreResting, IsDead, cases_Bool}
 use Rattle.pg_position.proofs.ValidLemmas.{castle_squares, castle_between}
-use Rattle.pg_captures.specs.Owed.{plies_left, victims}
-use Rattle.pg_travel.specs.Origins.{charge, counted}
-use Rattle.pg_travel.specs.lemmas.OriginsLemmas.{counted_king, counted_rook, counted_other}
-use Rattle.pg_journeys.specs.Facts.{Facts}
-use Rattle.pg_journeys.specs.Journeys.{Leg, IsPath, quiet, Fate, Arrives, Falls, Meets, IsWayUnder, Journeys, HasTake}
-use Rattle.pg_journeys.specs.Plans.{Measure, Moves, QuietMoves, IsPaid, IsAlive}
-use Rattle.pg_journeys.specs.inner.Resting.{lifted, lifted_from, AreResting}
-use Rattle.pg_journeys.specs.inner.Showing.{IsDead}
-use Rattle.pg_journeys.proofs.FrontLemmas.{on_or_off, not_both}
+use Rattle.pg_journeys.proofs.FrontLemmas.{not_both}
 use Rattle.pg_journeys.proofs.RestingLemmas.{stands_lifted, lifted_victims}
 
 -- ---- where a man starts
@@ -83,7 +63,7 @@ module _ (f : Facts) (d : Placement) (p : State) (z : ℕ) (r : AreResting f d p
 
   -- another man meets the same fates without those who rest: none of them comes to their squares
   meets_without : (k : Kind) (s o : ℕ) (ls : List Leg) (e : Fate) → has z s ≡ false → (f.still o ≡ true → o ≡ s) → Meets f d p c k s o ls e → Meets f (lifted d z) (lifted_from p z) c k s o ls e
-  meets_without k s o ls (Arrives t) off start (j, there, st, path) = (j, there, (stands_lifted d z c j t there).1 (st, left (on_or_off (has z t))), path)
+  meets_without k s o ls (Arrives t) off start (j, there, st, path) = (j, there, (stands_lifted d z c j t there).1 (st, left (cases_Bool (has z t))), path)
     where
       left : (has z t ≡ true) ⊎ (has z t ≡ false) → has z t ≡ false
       left (inl on) =
@@ -107,7 +87,7 @@ module _ (f : Facts) (d : Placement) (p : State) (z : ℕ) (r : AreResting f d p
     reached_without g j t low h =
         let st : Stands d c j t × (has z t ≡ false) = (stands_lifted d z c j t low).0 h in
         let was : (k : Kind) × (s : ℕ) × (s < 64) × Stands p.board c k s × (g.fate s ≡ Arrives t) = g.reached j t low st.0 in
-        (was.0, was.1, was.2, (stands_lifted p.board z c was.0 was.1 was.2).1 (was.3, left was.0 was.1 was.2 was.3 was.4 st.1 (on_or_off (has z was.1))), was.4)
+        (was.0, was.1, was.2, (stands_lifted p.board z c was.0 was.1 was.2).1 (was.3, left was.0 was.1 was.2 was.3 was.4 st.1 (cases_Bool (has z was.1))), was.4)
       where
         left : (k : Kind) (s : ℕ) → s < 64 → Stands p.board c k s → g.fate s ≡ Arrives t → has z t ≡ false → (has z s ≡ true) ⊎ (has z s ≡ false) → has z s ≡ false
         left k s there stood e off (inl on) =
@@ -194,9 +174,9 @@ module _ (f : Facts) (d : Placement) (p : State) (z : ℕ) (r : AreResting f d p
       with_rest = record {
         fate = fates;
         path = paths;
-        meets = λ k s low st. met k s low st (on_or_off (has z s));
-        different = λ k i a b t la lb ha hb ea eb. apart_with k i a b t la lb ha hb ea eb (on_or_off (has z a)) (on_or_off (has z b));
-        reached = λ j t low h. reached_with j t low h (on_or_off (has z t));
+        meets = λ k s low st. met k s low st (cases_Bool (has z s));
+        different = λ k i a b t la lb ha hb ea eb. apart_with k i a b t la lb ha hb ea eb (cases_Bool (has z a)) (cases_Bool (has z b));
+        reached = λ j t low h. reached_with j t low h (cases_Bool (has z t));
       }
 
       pub with_is : (s : ℕ) → has z s ≡ false → (with_rest.fate s ≡ g.fate s) × (with_rest.path s ≡ g.path s)

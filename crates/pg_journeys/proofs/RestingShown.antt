@@ -1,25 +1,7 @@
 -- What plans show without the men who rest is what they show with them; and who rests, by sets of squares.
-use Rattle.std.proofs.Common.{◌≡◌, ℕ, ◌+◌, ◌<◌, ◌↔◌, ◌⊎◌, inl, inr, Option, Bool, true, false, not, ◌&&◌, refl, sym, ap, subst, arith, ◌∙◌, [], List}
-use Rattle.std.proofs.Math.Bool.{and-true, and-false}
-use Rattle.pg_board.specs.Bits.{has}
-use Rattle.pg_board.specs.declared.man.Color.{Color}
-use Rattle.pg_board.specs.declared.man.Color.TheVariants.{White, Black}
-use Rattle.pg_board.specs.declared.man.Kind.{Kind}
-use Rattle.pg_board.specs.Placement.{Placement, get}
-use Rattle.pg_position.specs.declared.rights.Wing.{Wing}
-use Rattle.pg_position.specs.declared.state.State.{State}
-use Rattle.pg_position.specs.Position.{Stands}
-use Rattle.pg_captures.specs.Owed.{plies_left, victims}
-use Rattle.pg_journeys.specs.Facts.{Facts}
-use Rattle.pg_journeys.specs.Known.{known}
+use Rattle.pg_journeys.proofs.Common.{◌≡◌, ℕ, ◌+◌, ◌<◌, ◌↔◌, ◌⊎◌, inl, inr, Option, Bool, true, false, not, ◌&&◌, refl, sym, ap, subst, arith, ◌∙◌, [], List, and-true, and-false, has, Color, White, Black, Kind, Placement, get, Wing, State, Stands, plies_left, victims, Facts, known, Leg, Arrives, Falls, IsWayUnder, HasPassed, Journeys, HasTake, Measure, Moves, QuietMoves, IsAlive, RestsOn, StaysIn, PlansToTake, PlansToFall, Shown, lifted, lifted_from, AreResting, IsLess, IsWithRest, IsBudget, lands_by, falls_by, Shows, cases_Bool}
 use Rattle.pg_journeys.specs.declared.facts.Facts.{Facts as FactSets}
-use Rattle.pg_journeys.specs.Journeys.{Leg, Arrives, Falls, IsWayUnder, HasPassed, Journeys, HasTake}
-use Rattle.pg_journeys.specs.Plans.{Measure, Moves, QuietMoves, IsAlive}
-use Rattle.pg_journeys.specs.Narrowing.{RestsOn, StaysIn, PlansToTake, PlansToFall}
-use Rattle.pg_journeys.specs.declared.shown.Shown.{Shown}
-use Rattle.pg_journeys.specs.inner.Resting.{lifted, lifted_from, AreResting, IsLess, IsWithRest}
-use Rattle.pg_journeys.specs.inner.Showing.{IsBudget, lands_by, falls_by, Shows}
-use Rattle.pg_journeys.proofs.FrontLemmas.{on_or_off, not_both}
+use Rattle.pg_journeys.proofs.FrontLemmas.{not_both}
 use Rattle.pg_journeys.proofs.RestingLemmas.{stands_lifted, lifted_victims}
 use Rattle.pg_journeys.proofs.RestingPlans.{start_of_still, never_arrives, same_end, no_take, rests_in, without_rest, with_rest, without_is, with_is, pays_without, pays_with, alive_without, alive_with}
 
@@ -33,14 +15,14 @@ less_on z n a q less low on = less q low ∙ ap (λ (x : Bool). has a q && not x
 module _ (f : Facts) (d : Placement) (p : State) (z : ℕ) (r : AreResting f d p z) (c : Color) (k : ℕ) where
   -- a man who takes a step is not among those who rest
   steps_off : (way : Option Wing) → IsWayUnder f p c way → (g : Journeys f d p c way) (i : Kind) (s q : ℕ) → s < 64 → Stands p.board c i s → HasTake f c q (g.path s) → has z s ≡ false
-  steps_off way held g i s q low st take = elim (on_or_off (has z s)) [
+  steps_off way held g i s q low st take = elim (cases_Bool (has z s)) [
     | inl on ↦ absurd (no_take f c q (g.path s) (rests_in f d p z r c way held g i s low st on).1 take)
     | inr off ↦ off
   ]
 
   -- nor is one who is captured
   falls_off : (way : Option Wing) → IsWayUnder f p c way → (g : Journeys f d p c way) (i : Kind) (s q : ℕ) → s < 64 → Stands p.board c i s → g.fate s ≡ Falls q → has z s ≡ false
-  falls_off way held g i s q low st falls = elim (on_or_off (has z s)) [
+  falls_off way held g i s q low st falls = elim (cases_Bool (has z s)) [
     | inl on ↦ absurd (never_arrives s q (sym falls ∙ (rests_in f d p z r c way held g i s low st on).0))
     | inr off ↦ off
   ]
@@ -131,7 +113,7 @@ module _ (f : Facts) (d : Placement) (p : State) (z : ℕ) (r : AreResting f d p
           λ h. falls_with u q ((shows.falls u q low).0 (sym (falls_same u q) ∙ h)),
           λ h. falls_same u q ∙ (shows.falls u q low).1 (falls_without u q h),
         );
-        stays = λ j s low st. stays j s low st (on_or_off (has z s));
+        stays = λ j s low st. stays j s low st (cases_Bool (has z s));
       }
     where
       lands_same : (u : Measure) (q : ℕ) → has (lands_by b u) q ≡ has (lands_by a u) q

@@ -1,19 +1,6 @@
 -- Rings that are kept one after another, and what is read from them.
-use Rattle.std.proofs.Common.{◌≡◌, ℕ, ◌+◌, ◌-◌, ◌<◌, ◌≤◌, ◌⊎◌, ◌↔◌, inl, inr, Bool, true, false, cond, List, [], get_or, refl, sym, ap, subst, arith, ◌∙◌}
-use Rattle.std.proofs.lemmas.Bool.{cases_lt}
-use Rattle.pg_board.specs.Bits.{has}
-use Rattle.pg_board.specs.declared.man.Color.{Color}
-use Rattle.pg_board.specs.declared.man.Kind.{Kind}
-use Rattle.pg_journeys.specs.Facts.{Facts}
-use Rattle.pg_journeys.specs.lemmas.DecidingPaths.{weigh}
-use Rattle.pg_journeys.specs.lemmas.Turns.{leg}
-use Rattle.pg_journeys.specs.inner.Counts.{of_kind}
+use Rattle.pg_journeys.proofs.Common.{◌≡◌, ℕ, ◌+◌, ◌-◌, ◌<◌, ◌≤◌, ◌⊎◌, ◌↔◌, inl, inr, Bool, true, false, cond, List, [], get_or, refl, sym, ap, subst, arith, ◌∙◌, cases_lt, has, Color, Kind, Facts, weigh, leg, of_kind, counts, BackWithin, AheadWithin, AreGrown, TakeStep, TakesAfter, AreRings, AreWithin, IsRing, TakesWithin, Rings}
 use Rattle.pg_journeys.specs.inner.Fronts.{IsJoined}
-use Rattle.pg_journeys.specs.inner.Counting.{counts}
-use Rattle.pg_journeys.specs.inner.Levels.{BackWithin, AheadWithin}
-use Rattle.pg_journeys.specs.inner.Reached.{AreGrown, TakeStep, TakesAfter}
-use Rattle.pg_journeys.specs.inner.Rings.{AreRings, AreWithin, IsRing, TakesWithin}
-use Rattle.pg_journeys.specs.declared.rings.Rings.{Rings}
 use Rattle.pg_journeys.proofs.FrontLemmas.{not_both, moved, joined_old, joined_new, joined_from}
 use Rattle.pg_journeys.proofs.StepLemmas.{taking_counts}
 

@@ -1,27 +1,6 @@
 -- How much the paths of each man may count in a plan. Leads to the contracts of `room`, `row`, `rows` and `rooms_of`.
-use Rattle.std.proofs.Common.{◌≡◌, ◌≢◌, ℕ, ◌+◌, ◌-◌, ◌<◌, ◌≤◌, inl, inr, Option, Some, None, Bool, List, [], length, get_or, set, refl, sym, ap, subst, ◌∙◌, arith}
-use Rattle.std.proofs.lemmas.Bool.{cases_lt}
-use Rattle.std.proofs.lemmas.Bool.Decides.{eqb_tells}
-use Rattle.std.proofs.lemmas.List.{get_or-set_same, get_or-set_other}
-use Rattle.pg_board.specs.declared.man.Kind.{Kind}
-use Rattle.pg_board.specs.Tally.{total}
-use Rattle.pg_board.specs.Placement.{Placement}
-use Rattle.pg_position.specs.declared.rights.Wing.{Wing}
-use Rattle.pg_position.specs.Position.{Stands}
-use Rattle.pg_captures.specs.lemmas.BoardLemmas.{same_kind}
-use Rattle.pg_travel.specs.Origins.{charge, counted}
+use Rattle.pg_journeys.proofs.Common.{◌≡◌, ◌≢◌, ℕ, ◌+◌, ◌-◌, ◌<◌, ◌≤◌, inl, inr, Option, Some, None, Bool, List, [], length, get_or, set, refl, sym, ap, subst, ◌∙◌, arith, cases_lt, eqb_tells, get_or-set_same, get_or-set_other, Kind, total, Placement, Wing, Stands, same_kind, charge, counted, Costs, cost, at2, told, sum_of, IsTotalWith, IsLeastWith, AreLeastWith, none_holds, some_holds, some_least, Leg, Fate, Arrives, Falls, Meets, InColumn, weigh, plan_to_total, total_to_plan, counts, facts_of, square_at, kind_at, IsSide, JourneysOf, IsPaidBy, MeetsAt, InEnd, AreRooms, IsRoom, IsWider, EndsAt, IsRoomRow, AreRoomRows, AreCostsOf, Side}
 use Rattle.pg_travel.specs.lemmas.SumLemmas.{sum_term}
-use Rattle.pg_assignments.specs.declared.costs.Costs.{Costs}
-use Rattle.pg_assignments.specs.Assignments.{cost, at2, told, sum_of, IsTotalWith, IsLeastWith, AreLeastWith}
-use Rattle.pg_assignments.proofs.LeastLemmas.{none_holds, some_holds, some_least}
-use Rattle.pg_journeys.specs.Journeys.{Leg, Fate, Arrives, Falls, Meets}
-use Rattle.pg_journeys.specs.PlanCosts.{InColumn}
-use Rattle.pg_journeys.specs.lemmas.DecidingPaths.{weigh}
-use Rattle.pg_journeys.specs.lemmas.PlanTotals.{plan_to_total, total_to_plan}
-use Rattle.pg_journeys.specs.inner.Counting.{counts}
-use Rattle.pg_journeys.specs.inner.Sides.{facts_of, square_at, kind_at, IsSide, JourneysOf, IsPaidBy, MeetsAt, InEnd, AreRooms}
-use Rattle.pg_journeys.specs.inner.Costing.{IsRoom, IsWider, EndsAt, IsRoomRow, AreRoomRows, AreCostsOf}
-use Rattle.pg_journeys.specs.declared.side.Side.{Side}
 use Rattle.pg_journeys.proofs.CostLemmas.{costs_to}
 
 -- ---- least totals

@@ -1,17 +1,7 @@
 -- A search by counts keeps what it says of a count, turn by turn, and ends with all whom that many counts meet.
-use Rattle.std.proofs.Common.{◌≡◌, ℕ, ◌+◌, ◌*◌, ◌/◌, ◌%◌, ◌-◌, ◌<◌, ◌≤◌, ◌⊎◌, ◌↔◌, inl, inr, Bool, true, false, not, ◌||◌, List, sym, ap, subst, arith, ◌∙◌, refl, zero, suc}
-use Rattle.pg_board.specs.Bits.{has}
-use Rattle.pg_board.specs.Tally.{total, one, count_below}
-use Rattle.pg_board.specs.lemmas.Sums.{total-le, total-suc}
-use Rattle.pg_board.specs.lemmas.Codes.{kind_of_number, kind_back}
-use Rattle.pg_board.specs.declared.man.Kind.{Kind}
-use Rattle.pg_board.specs.Men.{number_of_kind}
-use Rattle.pg_journeys.specs.inner.Counts.{of_kind}
-use Rattle.pg_journeys.specs.inner.Fronts.{is_met, is_due, is_next, IsMeeting, AreTakenDue, NoneDue, HasAdvanced}
-use Rattle.pg_journeys.specs.inner.Levels.{Men, Steps, Within, FromSome}
-use Rattle.pg_journeys.specs.inner.Searches.{AreDueMet, IsBefore, IsAmid}
-use Rattle.pg_journeys.specs.declared.fronts.Front.{Front}
-use Rattle.pg_journeys.proofs.FrontLemmas.{on_or_off, not_both, or_left, or_right, or_either, and_first, and_both, not_true, not_false, low_kind}
+use Rattle.pg_journeys.proofs.Common.{◌≡◌, ℕ, ◌+◌, ◌*◌, ◌/◌, ◌%◌, ◌-◌, ◌<◌, ◌≤◌, ◌⊎◌, ◌↔◌, inl, inr, Bool, true, false, not, ◌||◌, List, sym, ap, subst, arith, ◌∙◌, refl, zero, suc, has, total, one, count_below, total-le, total-suc, kind_of_number, kind_back, Kind, number_of_kind, of_kind, is_met, is_due, is_next, IsMeeting, AreTakenDue, NoneDue, HasAdvanced, Steps, Within, FromSome, AreDueMet, IsBefore, IsAmid, Front, cases_Bool, not-true, not_from_false, or_left, or_right, and_from, kind_low}
+use Rattle.pg_journeys.specs.inner.Levels.{Men}
+use Rattle.pg_journeys.proofs.FrontLemmas.{not_both, or_either, and_first}
 
 -- ---- how many men are still to be looked at: those who are due, and those who were not met
 is_left : Front → Kind → ℕ → Bool
@@ -69,13 +59,13 @@ module _ (S : Kind → ℕ → ℕ → Type 0) (k : Kind) (set : ℕ) (a b d : F
   was_left : (j : Kind) (t : ℕ) → t < 64 → is_left d j t ≡ true → is_left a j t ≡ true
   unfolding is_left
   was_left j t l h = elim (or_either (not (is_met d j t)) (is_due d j t) h) [
-    | inl u ↦ elim (on_or_off (is_met a j t)) [
-      | inl v ↦ absurd (not_both (is_met d j t) (stays_met j t l v) (not_true (is_met d j t) u))
-      | inr v ↦ or_left (not (is_met a j t)) (is_due a j t) (not_false (is_met a j t) v)
+    | inl u ↦ elim (cases_Bool (is_met a j t)) [
+      | inl v ↦ absurd (not_both (is_met d j t) (stays_met j t l v) (not-true (is_met d j t) u))
+      | inr v ↦ or_left (not (is_met a j t)) (is_due a j t) (not_from_false (is_met a j t) v)
     ]
     | inr u ↦ elim (meets.new_due j t l u) [
       | inl v ↦ or_right (not (is_met a j t)) (is_due a j t) (taken.rest j t l v)
-      | inr (v, _) ↦ or_left (not (is_met a j t)) (is_due a j t) (not_false (is_met a j t) (sym (as_met j t) ∙ v))
+      | inr (v, _) ↦ or_left (not (is_met a j t)) (is_due a j t) (not_from_false (is_met a j t) (sym (as_met j t) ∙ v))
     ]
   ]
 
@@ -86,10 +76,10 @@ module _ (S : Kind → ℕ → ℕ → Type 0) (k : Kind) (set : ℕ) (a b d : F
       let due : is_due a k t ≡ true = taken.was t l on in
       let met : is_met a k t ≡ true = ready k t l due in (
         or_right (not (is_met a k t)) (is_due a k t) due,
-        elim (on_or_off (not (is_met d k t) || is_due d k t)) [
+        elim (cases_Bool (not (is_met d k t) || is_due d k t)) [
           | inr u ↦ u
           | inl u ↦ elim (or_either (not (is_met d k t)) (is_due d k t) u) [
-            | inl v ↦ absurd (not_both (is_met d k t) (stays_met k t l met) (not_true (is_met d k t) v))
+            | inl v ↦ absurd (not_both (is_met d k t) (stays_met k t l met) (not-true (is_met d k t) v))
             | inr v ↦ elim (meets.new_due k t l v) [
               | inl w ↦ absurd (not_both (is_due b k t) w (taken.gone t l on))
               | inr (w, _) ↦ absurd (not_both (is_met b k t) (as_met k t ∙ met) w)
@@ -104,7 +94,7 @@ module _ (S : Kind → ℕ → ℕ → Type 0) (k : Kind) (set : ℕ) (a b d : F
       let s : ℕ = taken.some.0 in
       let low : s < 64 = taken.some.1 in
       let i : ℕ = number_of_kind k * 64 + s in
-      let small : i < 384 = omega (arith, low_kind k) in
+      let small : i < 384 = omega (arith, kind_low k) in
       let e : kind_of_number (i / 64) ≡ k = kind_at k s low in
       let f : i % 64 ≡ s = square_at (number_of_kind k) s low in
       let was : is_left a (kind_of_number (i / 64)) (i % 64) ≡ true = subst (λ (x : Kind). is_left a x (i % 64) ≡ true) (sym e) (subst (λ (x : ℕ). is_left a k x ≡ true) (sym f) (seen s low taken.some.2).0) in
@@ -186,11 +176,11 @@ module _ (start : Men) (step : Steps) (within : Within) (light : (k : Kind) (s :
 
     -- whoever is met now was met before or is due
     pub met_or_due : (j : Kind) (t : ℕ) → t < 64 → is_met b j t ≡ true → (is_met a j t ≡ true) ⊎ (is_due b j t ≡ true)
-    met_or_due j t l h = elim (on_or_off (is_met a j t)) [
+    met_or_due j t l h = elim (cases_Bool (is_met a j t)) [
       | inl u ↦ inl u
       | inr u ↦ elim (or_either (is_met a j t) (is_next a j t) (sym (next j t l).met ∙ h)) [
         | inl v ↦ inl v
-        | inr v ↦ inr ((next j t l).due ∙ and_both (is_next a j t) (not (is_met a j t)) v (not_false (is_met a j t) u))
+        | inr v ↦ inr ((next j t l).due ∙ and_from (is_next a j t) (not (is_met a j t)) v (not_from_false (is_met a j t) u))
       ]
     ]
 

@@ -1,17 +1,6 @@
 -- What the plans of ways show, taken together way by way. Leads to the contract of `ways_shown`.
-use Rattle.std.proofs.Common.{◌≡◌, ℕ, ◌⊎◌, ◌||◌, inl, inr, Option, Some, None, Bool, true, false, refl, sym, subst, ◌∙◌, List, [], ◌∷◌, MatchOption, IfNone, IfSome}
-use Rattle.pg_board.specs.Bits.{has}
-use Rattle.pg_board.specs.declared.man.Color.{Color}
-use Rattle.pg_board.specs.Placement.{Placement}
-use Rattle.pg_board.specs.SquareSets.{IsSetOf}
-use Rattle.pg_position.specs.declared.rights.Wing.{Wing}
-use Rattle.pg_position.specs.declared.rights.Wing.TheVariants.{KingSide, QueenSide}
-use Rattle.pg_position.specs.declared.state.State.{State}
-use Rattle.pg_journeys.specs.Facts.{Facts}
-use Rattle.pg_journeys.specs.Plans.{Measure, Moves, QuietMoves, IsAlive}
-use Rattle.pg_journeys.specs.Narrowing.{StaysIn}
-use Rattle.pg_journeys.specs.inner.Showing.{TakesIn, FallsIn, ShowsNone, IsWithFound, ShowsWay, IsJoined, IsOneOf, ShowsWays, NoneAlive, ShowsAmong, IsDead, Shows, lands_by, falls_by}
-use Rattle.pg_journeys.specs.declared.shown.Shown.{Shown}
+use Rattle.pg_journeys.proofs.Common.{◌≡◌, ℕ, ◌⊎◌, ◌||◌, inl, inr, Option, Some, None, Bool, true, false, refl, sym, subst, ◌∙◌, List, [], ◌∷◌, MatchOption, IfNone, IfSome, has, Color, Placement, IsSetOf, Wing, KingSide, QueenSide, State, Facts, Measure, Moves, QuietMoves, IsAlive, StaysIn, TakesIn, FallsIn, ShowsNone, IsWithFound, ShowsWay, IsOneOf, ShowsWays, NoneAlive, ShowsAmong, IsDead, Shows, lands_by, falls_by, Shown}
+use Rattle.pg_journeys.specs.inner.Showing.{IsJoined}
 
 -- ---- two sets that become one
 pub either : (a b r : Bool) → r ≡ (a || b) → r ≡ true → (a ≡ true) ⊎ (b ≡ true)

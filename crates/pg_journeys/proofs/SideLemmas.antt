@@ -1,16 +1,6 @@
 -- What is known of each side by its type, which says in truth alone that it is one of some diagram: what can be decided is known.
 -- Leads to the contracts of all that take a side.
-use Rattle.std.proofs.Common.{ℕ, ◌<◌, ◌≤◌, arith}
-use Rattle.std.proofs.Math.Logic.{∥∥₁_elim, ∥∥₁_map}
-use Rattle.pg_board.specs.lemmas.Decisions.{dec_and, dec_equal, dec_less, dec_or, dec_true}
-use Rattle.pg_journeys.specs.lemmas.Deciding.{dec_false, dec_leg}
-use Rattle.pg_journeys.specs.lemmas.Turns.{leg}
-use Rattle.pg_journeys.specs.Known.{known}
-use Rattle.pg_journeys.specs.inner.Grounds.{IsGround}
-use Rattle.pg_journeys.specs.inner.SideParts.{HaveSquares}
-use Rattle.pg_journeys.specs.inner.Sides.{square_at, IsEnd}
-use Rattle.pg_journeys.specs.declared.ground.Ground.{Ground}
-use Rattle.pg_journeys.specs.declared.side.Side.{Side}
+use Rattle.pg_journeys.proofs.Common.{ℕ, ◌<◌, ◌≤◌, arith, ∥∥₁_elim, ∥∥₁_map, dec_and, dec_equal, dec_less, dec_or, dec_true, dec_false, dec_leg, leg, known, IsGround, HaveSquares, square_at, IsEnd, Ground, Side}
 
 -- what can be decided is known where it is known in truth alone
 pub decided : {A : Type 0} → Dec A → ∥ A ∥₁ → A

@@ -1,10 +1,5 @@
 -- Sets that loops make: the squares of a set that pass a test, and what loops add to a set.
-use Rattle.std.proofs.Common.{◌≡◌, ℕ, ◌+◌, ◌<◌, ◌⊎◌, inl, inr, Bool, true, false, cond, ◌||◌, sym, ap, subst, arith, ◌∙◌}
-use Rattle.std.proofs.lemmas.Bool.{or_left, or_right, or_cases, eq-eqb, cases_eq, cases_lt}
-use Rattle.pg_board.specs.Bits.{has}
-use Rattle.pg_board.specs.SquareSets.{IsSetOf, HasNoneFrom, IsFirstFrom}
-use Rattle.pg_travel.proofs.TakenSets.{IsWithout, other_than}
-use Rattle.pg_journeys.specs.inner.Grounds.{LedTo}
+use Rattle.pg_journeys.proofs.Common.{◌≡◌, ℕ, ◌+◌, ◌<◌, ◌⊎◌, inl, inr, Bool, true, false, cond, ◌||◌, sym, ap, subst, arith, ◌∙◌, or_left, or_right, or_cases, eq-eqb, cases_eq, cases_lt, has, IsSetOf, HasNoneFrom, IsFirstFrom, IsWithout, other_than, LedTo}
 
 was_left : (old new o q : ℕ) → IsWithout old new o → q < 64 → has new q ≡ true → has old q ≡ true
 was_left old new o q rest l h = elim (cases_eq q o) [

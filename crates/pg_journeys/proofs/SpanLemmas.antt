@@ -1,25 +1,7 @@
 -- The squares from the king to the rook before they castle, and the square that a pawn has just passed. Leads to the contracts of
 -- `span`, `is_way` and `passed_square`.
-use Rattle.std.proofs.Common.{◌≡◌, ◌↔◌, ℕ, ◌+◌, ◌<◌, inl, inr, IsTrue, Option, Some, Bool, true, false, not, ◌&&◌, ltb, refl, sym, ap, subst, ◌∙◌, arith}
-use Rattle.std.proofs.lemmas.Bool.{cases_Bool}
-use Rattle.std.proofs.lemmas.Bool.Decides.{Decides-ltb, Decides-and, Decides-at, Decides-like}
-use Rattle.pg_board.specs.declared.man.Color.{Color}
-use Rattle.pg_board.specs.declared.man.Color.TheVariants.{White, Black}
-use Rattle.pg_board.specs.Bits.{has, bits_below, has-bits_below}
-use Rattle.pg_board.specs.Men.{other}
-use Rattle.pg_board.specs.SquareSets.{IsSetOf, Meet}
-use Rattle.pg_board.specs.Squares.{rank}
-use Rattle.pg_board.specs.lemmas.Decisions.{dec_equal}
-use Rattle.pg_position.specs.declared.rights.Wing.{Wing}
-use Rattle.pg_position.specs.declared.rights.Wing.TheVariants.{KingSide, QueenSide}
-use Rattle.pg_position.specs.declared.state.State.{State}
-use Rattle.pg_position.specs.Geometry.{IsBetween}
-use Rattle.pg_position.specs.Position.{holds, IsPosition, IsPassed}
-use Rattle.pg_position.specs.Squares.{king_home, rook_home, HasAhead, passed_rank}
-use Rattle.pg_journeys.specs.Journeys.{IsWayUnder}
-use Rattle.pg_journeys.specs.Known.{known}
+use Rattle.pg_journeys.proofs.Common.{◌≡◌, ◌↔◌, ℕ, ◌+◌, ◌<◌, inl, inr, IsTrue, Option, Some, Bool, true, false, not, ◌&&◌, ltb, refl, sym, ap, subst, ◌∙◌, arith, cases_Bool, Decides-ltb, Decides-and, Decides-at, Decides-like, Color, White, Black, has, bits_below, has-bits_below, other, IsSetOf, Meet, rank, dec_equal, Wing, KingSide, QueenSide, State, IsBetween, holds, IsPosition, IsPassed, king_home, rook_home, HasAhead, passed_rank, IsWayUnder, known, IsOnSpan}
 use Rattle.pg_journeys.specs.declared.facts.Facts.{Facts as FactSets}
-use Rattle.pg_journeys.specs.inner.Costing.{IsOnSpan}
 
 -- ---- the span
 -- the least of its squares, and the one past the greatest
@@ -113,11 +95,11 @@ span_is c d w v n ec ew e = subst (λ (x : ℕ). IsSetOf x (IsOnSpan c w)) (both
     both = (λ i. span_set (ec i) (ew i))
 
 -- ---- ways
-home_low : (c : Color) → king_home c < 64
+pub home_low : (c : Color) → king_home c < 64
 home_low White = omega arith
 home_low Black = omega arith
 
-rook_low : (c : Color) (w : Wing) → rook_home c w < 64
+pub rook_low : (c : Color) (w : Wing) → rook_home c w < 64
 rook_low White KingSide = omega arith
 rook_low White QueenSide = omega arith
 rook_low Black KingSide = omega arith

@@ -1,24 +1,7 @@
 -- Ranks and walls as sets of squares. Leads to the contracts of `rank_set`, `walls` and `ahead_of`.
-use Rattle.std.proofs.Common.{arith, ◌≡◌, ◌↔◌, ℕ, zero, suc, ◌+◌, ◌-◌, ◌*◌, ◌/◌, ◌%◌, ◌^◌, ◌<◌, ◌≤◌, ◌⊎◌, inl, inr, IsTrue, Bool, true, false, not, ◌&&◌, ◌||◌, eqb, pow-suc, refl, sym, ap, subst, ◌∙◌}
-use Rattle.std.specs.Int.{bit_at}
-use Rattle.std.proofs.lemmas.Nat.{shr-shr}
-use Rattle.std.proofs.lemmas.Nat.Bits.{bit_at_cat_low, bit_at_cat_high, bit_at_above}
-use Rattle.std.proofs.lemmas.Bool.Decides.{Decides-at, Decides-eqb, leb_tells}
-use Rattle.pg_board.specs.declared.man.Color.{Color}
-use Rattle.pg_board.specs.declared.man.Color.TheVariants.{White, Black}
-use Rattle.pg_board.specs.declared.man.Kind.TheVariants.{Pawn}
-use Rattle.pg_board.specs.declared.man.Man.{Man}
-use Rattle.pg_board.specs.Bits.{has, bits_below, has-bits_below, has-none}
-use Rattle.pg_board.specs.Men.{man, is_man}
-use Rattle.pg_board.specs.Placement.{Placement, get}
-use Rattle.pg_board.specs.Squares.{file, rank}
-use Rattle.pg_board.specs.SquareSets.{IsSetOf}
+use Rattle.pg_journeys.proofs.Common.{arith, ◌≡◌, ◌↔◌, ℕ, zero, suc, ◌+◌, ◌-◌, ◌*◌, ◌/◌, ◌%◌, ◌^◌, ◌<◌, ◌≤◌, ◌⊎◌, inl, inr, IsTrue, Bool, true, false, not, ◌&&◌, ◌||◌, eqb, pow-suc, refl, sym, ap, subst, ◌∙◌, bit_at, shr-shr, bit_at_cat_low, bit_at_cat_high, bit_at_above, Decides-at, Decides-eqb, leb_tells, Color, White, Black, Pawn, Man, has, bits_below, has-bits_below, has-none, man, is_man, Placement, get, file, rank, IsSetOf, and_true, set_like, set_of_both, set_of_union, Stands, IsWall, IsWallOf, IsAheadOf, IsEastOf, IsWestOf, false_from_ne_true, not-true, not_from_false, and_from}
 use Rattle.pg_board.specs.lemmas.Equalities.{is_man_decides}
-use Rattle.pg_board.proofs.SetLemmas.{and_true, set_like, set_of_both, set_of_union}
-use Rattle.pg_position.specs.Position.{Stands}
-use Rattle.pg_journeys.specs.Walls.{IsWall}
-use Rattle.pg_journeys.specs.FirstFacts.{IsWallOf}
-use Rattle.pg_journeys.specs.inner.Makings.{IsNext, IsAheadOf, IsEastOf, IsWestOf}
+use Rattle.pg_journeys.specs.inner.Makings.{IsNext}
 
 -- ---- ranks
 rank_bits : (r : ℕ) → 1 ≤ r → r ≤ 8 → bits_below (λ s. eqb (rank s) r) 64 ≡ 255 * 2 ^ (8 * (r - 1)) % 2 ^ 64
@@ -86,9 +69,6 @@ none_up n k q below low =
 pub apart : (x : Bool) → x ≡ true → x ≡ false → ⊥
 apart x e f = cc
 
-pub both_true : (x y : Bool) → x ≡ true → y ≡ true → x && y ≡ true
-both_true x y e f = cc
-
 next_white : (x q : ℕ) → IsNext White x q → (8 ≤ q) × (q - 8 ≡ x)
 next_white x q h = let f : file x ≡ file q = h.0 in let r : rank q ≡ rank x + 1 = h.1 in (omega arith, omega arith)
 
@@ -111,7 +91,7 @@ shifted_up c set bits free moved n white same e is q l = subst (λ (d : Color). 
         | inr w ↦ absurd (apart (has 0 q) (sym (none_up bits 8 q w.1 l) ∙ m) (has-none q))
       ]),
   λ ((x, low, on, next), vacant). (let far : (8 ≤ q) × (q - 8 ≡ x) = next_white x q next in
-      is q ∙ both_true (has moved q) (has free q) (ap (λ (y : ℕ). has y q) e ∙ has_up bits 8 q far.0 l ∙ ap (has bits) far.1 ∙ on) vacant),
+      is q ∙ and_from (has moved q) (has free q) (ap (λ (y : ℕ). has y q) e ∙ has_up bits 8 q far.0 l ∙ ap (has bits) far.1 ∙ on) vacant),
 ))
 
 pub shifted_down : (c : Color) (set bits free moved n : ℕ) → c ≡ Black → bits ≡ set → bits < 2 ^ 64 → moved ≡ bits / 2 ^ 8 → ((p : ℕ) → has n p ≡ has moved p && has free p) → IsSetOf n (IsAheadOf c set free)
@@ -122,7 +102,7 @@ shifted_down c set bits free moved n black same fits e is q l = subst (λ (d : C
         | inl w ↦ absurd (apart (has bits (q + 8)) m (ap (λ (y : ℕ). eqb y 1) (bit_at_above bits 64 (q + 8) fits w.1)))
         | inr w ↦ ((q + 8, w.1, m, black_next q), x.1)
       ]),
-  λ ((x, low, on, next), vacant). is q ∙ both_true (has moved q) (has free q) (ap (λ (y : ℕ). has y q) e ∙ has_down bits 8 q ∙ ap (has bits) (next_black x q next) ∙ on) vacant,
+  λ ((x, low, on, next), vacant). is q ∙ and_from (has moved q) (has free q) (ap (λ (y : ℕ). has y q) e ∙ has_down bits 8 q ∙ ap (has bits) (next_black x q next) ∙ on) vacant,
 ))
 
 -- ---- files
@@ -140,41 +120,30 @@ first_squares n e q l = Decides-at _ _ (ap (λ (x : ℕ). has x q) (e ∙ sym fi
 pub last_squares : (n : ℕ) → n ≡ 9259542123273814144 → IsSetOf n (λ s. file s ≡ 8)
 last_squares n e q l = Decides-at _ _ (ap (λ (x : ℕ). has x q) (e ∙ sym last_bits) ∙ has-bits_below (λ s. eqb (file s) 8) 64 q l) (Decides-eqb (file q) 8)
 
-off : (x : Bool) → (x ≡ true → ⊥) → x ≡ false
-off true f = absurd (f refl)
-off false f = refl
-
-on_not : (x : Bool) → not x ≡ true → x ≡ false
-on_not true e = cc
-on_not false e = refl
-
-not_off : (x : Bool) → x ≡ false → not x ≡ true
-not_off x e = cc
-
 -- a set shifted by a square, but for those that come round to the other side
 pub shifted_east : (set bits moved edge n : ℕ) → bits ≡ set → moved ≡ bits * 2 ^ 1 % 2 ^ 64 → IsSetOf edge (λ s. file s ≡ 1) → ((q : ℕ) → q < 64 → has n q ≡ (has moved q && not (has edge q))) → IsSetOf n (IsEastOf set)
 shifted_east set bits moved edge n same e first is q l = subst (λ (y : ℕ). IsTrue (has n q) ↔ IsEastOf y q) same (
   λ t. (let x : (has moved q ≡ true) × (not (has edge q) ≡ true) = and_true (has moved q) (not (has edge q)) (sym (is q l) ∙ t) in
       let m : has (bits * 2 ^ 1 % 2 ^ 64) q ≡ true = ap (λ (y : ℕ). has y q) (sym e) ∙ x.0 in
-      let inside : file q ≡ 1 → ⊥ = λ f. apart (has edge q) ((first q l).1 f) (on_not (has edge q) x.1) in
+      let inside : file q ≡ 1 → ⊥ = λ f. apart (has edge q) ((first q l).1 f) (not-true (has edge q) x.1) in
       elim (leb_tells 1 q) [
         | inl w ↦ (let low : q - 1 < 64 = omega (arith, l) in (q - 1, low, sym (has_up bits 1 q w.1 l) ∙ m, omega (arith, w.1), omega (arith, w.1, inside)))
         | inr w ↦ absurd (apart (has 0 q) (sym (none_up bits 1 q w.1 l) ∙ m) (has-none q))
       ]),
   λ (x, low, on, next, row). (let from : 1 ≤ q = omega arith in let back : q - 1 ≡ x = omega arith in
-      is q l ∙ both_true (has moved q) (not (has edge q)) (ap (λ (y : ℕ). has y q) e ∙ has_up bits 1 q from l ∙ ap (has bits) back ∙ on)
-      (not_off (has edge q) (off (has edge q) (λ t. (let f : file q ≡ 1 = (first q l).0 t in absurd (omega (arith, f, next, row))))))),
+      is q l ∙ and_from (has moved q) (not (has edge q)) (ap (λ (y : ℕ). has y q) e ∙ has_up bits 1 q from l ∙ ap (has bits) back ∙ on)
+      (not_from_false (has edge q) (false_from_ne_true (has edge q) (λ t. (let f : file q ≡ 1 = (first q l).0 t in absurd (omega (arith, f, next, row))))))),
 )
 
 pub shifted_west : (set bits moved edge n : ℕ) → bits ≡ set → bits < 2 ^ 64 → moved ≡ bits / 2 ^ 1 → IsSetOf edge (λ s. file s ≡ 8) → ((q : ℕ) → q < 64 → has n q ≡ (has moved q && not (has edge q))) → IsSetOf n (IsWestOf set)
 shifted_west set bits moved edge n same fits e last is q l = subst (λ (y : ℕ). IsTrue (has n q) ↔ IsWestOf y q) same (
   λ t. (let x : (has moved q ≡ true) × (not (has edge q) ≡ true) = and_true (has moved q) (not (has edge q)) (sym (is q l) ∙ t) in
       let m : has bits (q + 1) ≡ true = sym (has_down bits 1 q) ∙ ap (λ (y : ℕ). has y q) (sym e) ∙ x.0 in
-      let inside : file q ≡ 8 → ⊥ = λ f. apart (has edge q) ((last q l).1 f) (on_not (has edge q) x.1) in
+      let inside : file q ≡ 8 → ⊥ = λ f. apart (has edge q) ((last q l).1 f) (not-true (has edge q) x.1) in
       elim (leb_tells 64 (q + 1)) [
         | inl w ↦ absurd (apart (has bits (q + 1)) m (ap (λ (y : ℕ). eqb y 1) (bit_at_above bits 64 (q + 1) fits w.1)))
         | inr w ↦ (q + 1, w.1, m, refl, omega (arith, inside))
       ]),
-  λ (x, low, on, next, row). is q l ∙ both_true (has moved q) (not (has edge q)) (ap (λ (y : ℕ). has y q) e ∙ has_down bits 1 q ∙ ap (has bits) (sym next) ∙ on)
-      (not_off (has edge q) (off (has edge q) (λ t. (let f : file q ≡ 8 = (last q l).0 t in absurd (omega (arith, f, next, row)))))),
+  λ (x, low, on, next, row). is q l ∙ and_from (has moved q) (not (has edge q)) (ap (λ (y : ℕ). has y q) e ∙ has_down bits 1 q ∙ ap (has bits) (sym next) ∙ on)
+      (not_from_false (has edge q) (false_from_ne_true (has edge q) (λ t. (let f : file q ≡ 8 = (last q l).0 t in absurd (omega (arith, f, next, row)))))),
 )

@@ -1,22 +1,7 @@
 -- Single steps under facts: turned round, to be another man, and what they count.
-use Rattle.std.proofs.Common.{◌≡◌, ◌≢◌, ℕ, ◌<◌, ◌⊎◌, inl, inr, Bool, true, false, not, ◌&&◌, cond, nat_eq, refl, sym, ap, arith, ◌∙◌}
-use Rattle.std.proofs.lemmas.Bool.Decides.{eqb_tells}
-use Rattle.pg_board.specs.declared.man.Color.{Color}
-use Rattle.pg_board.specs.declared.man.Kind.{Kind}
-use Rattle.pg_board.specs.declared.man.Kind.TheVariants.{Pawn, Knight, Bishop, Rook, Queen, King}
-use Rattle.pg_board.specs.Men.{kind_eq}
-use Rattle.pg_board.specs.Bits.{has}
-use Rattle.pg_board.specs.Squares.{file, rank}
-use Rattle.pg_board.specs.SquareSets.{IsSetOf, HasNoneFrom}
-use Rattle.pg_position.specs.Geometry.{OnOneLine, InPattern}
-use Rattle.pg_position.specs.Squares.{last_rank}
+use Rattle.pg_journeys.proofs.Common.{◌≡◌, ◌≢◌, ℕ, ◌<◌, ◌⊎◌, inl, inr, Bool, true, false, not, ◌&&◌, cond, nat_eq, refl, sym, ap, arith, ◌∙◌, eqb_tells, Color, Kind, Pawn, Knight, Bishop, Rook, Queen, King, kind_eq, has, file, rank, IsSetOf, HasNoneFrom, OnOneLine, InPattern, last_rank, StepsTo, Becomes, FreeStep, Facts, Leg, IsLeg, may_take, leg, counts, cases_Bool, not-true, not_from_false, and_from, and-true, and-false}
 use Rattle.pg_position.proofs.ReachLemmas.{between_turn}
-use Rattle.pg_captures.specs.FreeSteps.{StepsTo, Becomes, FreeStep}
-use Rattle.pg_journeys.specs.Facts.{Facts}
-use Rattle.pg_journeys.specs.Journeys.{Leg, IsLeg, may_take}
-use Rattle.pg_journeys.specs.lemmas.Turns.{leg}
-use Rattle.pg_journeys.specs.inner.Counting.{counts}
-use Rattle.pg_journeys.proofs.FrontLemmas.{kind_is, not_both, on_or_off, and_first, and_second, and_both, not_true, not_false}
+use Rattle.pg_journeys.proofs.FrontLemmas.{kind_is, not_both, and_first, and_second}
 
 -- ---- turned round
 line_turn : (r s : ℕ) → OnOneLine r s → OnOneLine s r
@@ -79,8 +64,8 @@ module _ (c : Color) (k : Kind) (set last r found : ℕ) (is : r ≡ last_rank c
   pawns_become e parted s l = (
     λ h.
         (let both : has set s && not (has last s) ≡ true = sym (parted s l) ∙ h in
-        (and_first (has set s) (not (has last s)) both, inr ((λ on. not_both (has last s) ((row s l).1 (on ∙ sym is)) (not_true (has last s) (and_second (has set s) (not (has last s)) both))), e))),
-    λ (on, b). parted s l ∙ and_both (has set s) (not (has last s)) on (not_false (has last s) (elim (on_or_off (has last s)) [
+        (and_first (has set s) (not (has last s)) both, inr ((λ on. not_both (has last s) ((row s l).1 (on ∙ sym is)) (not-true (has last s) (and_second (has set s) (not (has last s)) both))), e))),
+    λ (on, b). parted s l ∙ and_from (has set s) (not (has last s)) on (not_from_false (has last s) (elim (cases_Bool (has last s)) [
       | inl u ↦ absurd (elim b [ inl (_, (n, _)) ↦ n e | inr (n, _) ↦ n ((row s l).0 u ∙ is) ])
       | inr u ↦ u
     ])),
@@ -102,12 +87,12 @@ module _ (c : Color) (k : Kind) (set last r found : ℕ) (is : r ≡ last_rank c
     λ h.
         (let both : has set s && has last s ≡ true = sym (parted s) ∙ h in
         (and_first (has set s) (has last s) both, inl ((row s l).0 (and_second (has set s) (has last s) both) ∙ is, (np, nk)))),
-    λ (on, b). elim b [ inl (r, _) ↦ parted s ∙ and_both (has set s) (has last s) on ((row s l).1 (r ∙ sym is)) | inr (_, e) ↦ absurd (np e) ],
+    λ (on, b). elim b [ inl (r, _) ↦ parted s ∙ and_from (has set s) (has last s) on ((row s l).1 (r ∙ sym is)) | inr (_, e) ↦ absurd (np e) ],
   )
 
 -- ---- what a step counts
 pub light_step : (f : Facts) (c : Color) (quiet : Bool) (l : Leg) (w : ℕ) → w ≡ counts f c quiet l → (w ≡ 0) ⊎ (w ≡ 1)
-light_step f c quiet l w e = elim (on_or_off (quiet && may_take f c l)) [
+light_step f c quiet l w e = elim (cases_Bool (quiet && may_take f c l)) [
   | inl u ↦ inl (e ∙ ap (λ (x : Bool). cond x 0 1) u)
   | inr u ↦ inr (e ∙ ap (λ (x : Bool). cond x 0 1) u)
 ]
@@ -116,16 +101,8 @@ turned : (b : Bool) → ◌≡◌ {A = ℕ} (cond (not b) 1 0) (cond b 0 1)
 turned true = refl
 turned false = refl
 
-and_true : (b : Bool) → b && true ≡ b
-and_true true = refl
-and_true false = refl
-
-and_false : (b : Bool) → b && false ≡ false
-and_false true = refl
-and_false false = refl
-
 off_kind : (k : Kind) → k ≢ Pawn → kind_eq k Pawn ≡ false
-off_kind k ne = elim (on_or_off (kind_eq k Pawn)) [ inl u ↦ absurd (ne (kind_is k Pawn u)) | inr u ↦ u ]
+off_kind k ne = elim (cases_Bool (kind_eq k Pawn)) [ inl u ↦ absurd (ne (kind_is k Pawn u)) | inr u ↦ u ]
 
 pub piece_takes : (f : Facts) (c : Color) (k i : Kind) (r s : ℕ) → k ≢ Pawn → may_take f c (leg k r i s) ≡ f.lands c s
 piece_takes f c k i r s ne = ap (λ (x : Bool). cond x (not (nat_eq (file r) (file s))) (f.lands c s)) (off_kind k ne)
@@ -149,10 +126,10 @@ pub capture_takes : (f : Facts) (c : Color) (i : Kind) (r s : ℕ) → file r �
 capture_takes f c i r s ne = elim (eqb_tells (file r) (file s)) [ inl w ↦ absurd (ne w.1) | inr w ↦ ap not w.0 ]
 
 pub quiet_counts : (f : Facts) (c : Color) (quiet : Bool) (l : Leg) → may_take f c l ≡ false → ◌≡◌ {A = ℕ} 1 (counts f c quiet l)
-quiet_counts f c quiet l e = sym (ap (λ (x : Bool). cond (quiet && x) 0 1) e ∙ ap (λ (x : Bool). cond x 0 1) (and_false quiet))
+quiet_counts f c quiet l e = sym (ap (λ (x : Bool). cond (quiet && x) 0 1) e ∙ ap (λ (x : Bool). cond x 0 1) (and-false quiet))
 
 pub taking_counts : (f : Facts) (c : Color) (quiet : Bool) (l : Leg) → may_take f c l ≡ true → ◌≡◌ {A = ℕ} (cond quiet 0 1) (counts f c quiet l)
-taking_counts f c quiet l e = sym (ap (λ (x : Bool). cond (quiet && x) 0 1) e ∙ ap (λ (x : Bool). cond x 0 1) (and_true quiet))
+taking_counts f c quiet l e = sym (ap (λ (x : Bool). cond (quiet && x) 0 1) e ∙ ap (λ (x : Bool). cond x 0 1) (and-true quiet))
 
 pub taking_flips : (f : Facts) (c : Color) (quiet : Bool) (l : Leg) → may_take f c l ≡ true → ◌≡◌ {A = ℕ} (cond (not quiet) 1 0) (counts f c quiet l)
 taking_flips f c quiet l e = turned quiet ∙ taking_counts f c quiet l e

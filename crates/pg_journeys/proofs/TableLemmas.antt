@@ -1,29 +1,9 @@
 -- Boards with a man on each still square, and tables of the steps that go by them. Leads to the contract of `steps_table`.
-use Rattle.std.proofs.Common.{arith, ◌≡◌, ◌≢◌, ◌↔◌, ℕ, ◌+◌, ◌*◌, ◌<◌, ◌≤◌, ◌⊎◌, inl, inr, IsTrue, Bool, true, false, not, ◌&&◌, ◌||◌, None, List, length, get_or, set, replicate, refl, sym, ap, subst, ◌∙◌}
-use Rattle.std.proofs.lemmas.Bool.Decides.{eqb_tells, leb_tells}
-use Rattle.std.proofs.lemmas.List.{get_or-set_same, get_or-set_other, get_or-replicate, get_or_past, length-replicate}
-use Rattle.pg_board.specs.declared.man.Color.{Color}
-use Rattle.pg_board.specs.declared.man.Color.TheVariants.{White}
-use Rattle.pg_board.specs.declared.man.Kind.{Kind}
-use Rattle.pg_board.specs.declared.man.Kind.TheVariants.{Pawn, Knight, Bishop, Rook, Queen, King}
-use Rattle.pg_board.specs.declared.man.Man.{Man}
-use Rattle.pg_board.specs.Bits.{has, has-none}
-use Rattle.pg_board.specs.Men.{is_held, number_of_kind, kind_eq, man}
-use Rattle.pg_board.specs.Placement.{Placement, get, put, empty}
-use Rattle.pg_board.specs.SquareSets.{IsSetOf, IsFirstFrom}
+use Rattle.pg_journeys.proofs.Common.{arith, ◌≡◌, ◌≢◌, ◌↔◌, ℕ, ◌+◌, ◌*◌, ◌<◌, ◌≤◌, ◌⊎◌, inl, inr, IsTrue, Bool, true, false, not, ◌&&◌, ◌||◌, None, List, length, get_or, set, replicate, refl, sym, ap, subst, ◌∙◌, eqb_tells, leb_tells, get_or-set_same, get_or-set_other, get_or-replicate, get_or_past, length-replicate, Color, White, Kind, Pawn, Knight, Bishop, Rook, Queen, King, Man, has, has-none, is_held, number_of_kind, kind_eq, man, Placement, get, put, empty, IsSetOf, IsFirstFrom, and_true, set_like, set_of_union, InPattern, StepsTo, Becomes, FreeStep, IsWithout, other_than, taken_itself, Facts, IsLeg, leg, IsTable, GoesOn, IsFilled, AreQueens, and_from}
 use Rattle.pg_board.specs.lemmas.Placements.{get-empty, get-put_same, get-put_other}
-use Rattle.pg_board.proofs.SetLemmas.{and_true, set_like, set_of_union}
 use Rattle.pg_position.specs.Attack.{IsClear, Reaches}
-use Rattle.pg_position.specs.Geometry.{InPattern}
-use Rattle.pg_captures.specs.FreeSteps.{StepsTo, Becomes, FreeStep}
 use Rattle.pg_travel.proofs.RowTables.{kind_low, same_kind}
-use Rattle.pg_travel.proofs.TakenSets.{IsWithout, other_than, taken_itself}
-use Rattle.pg_journeys.proofs.SquareLemmas.{apart, both_true}
-use Rattle.pg_journeys.specs.Facts.{Facts}
-use Rattle.pg_journeys.specs.Journeys.{IsLeg}
-use Rattle.pg_journeys.specs.lemmas.Turns.{leg}
-use Rattle.pg_journeys.specs.inner.Grounds.{IsTable}
-use Rattle.pg_journeys.specs.inner.Makings.{GoesOn, IsFilled, AreQueens}
+use Rattle.pg_journeys.proofs.SquareLemmas.{apart}
 
 -- ---- the board
 -- a man stands on each square of the set that is not left
@@ -76,7 +56,7 @@ pub steps_from : (b : Placement) (free : ℕ) (k : Kind) (m : Man) (r attacked n
 steps_from b free k m r attacked n e vacant is both q l =
     let reach : IsTrue (has attacked q) ↔ Reaches b White k r q = subst (λ (x : Man). IsTrue (has attacked q) ↔ Reaches b x.color x.kind r q) e (is q l) in (
       λ t. (let x : (has attacked q ≡ true) × (has free q ≡ true) = and_true (has attacked q) (has free q) (sym (both q) ∙ t) in (vacant, x.1, reach.0 x.0)),
-      λ h. both q ∙ both_true (has attacked q) (has free q) (reach.1 h.2) h.1,
+      λ h. both q ∙ and_from (has attacked q) (has free q) (reach.1 h.2) h.1,
     )
 
 pub filling_next : (b : Placement) (free : ℕ) (k : Kind) (old new o place n : ℕ) (first now : List ℕ) → length now ≡ 384 → IsFilling b free k old first now → IsFirstFrom old 0 o → IsWithout old new o → place ≡ number_of_kind k * 64 + o → IsSetOf n (GoesOn b free k o) → IsFilling b free k new first (set now place n)

@@ -1,30 +1,6 @@
 -- Whom of the diagram some man comes to be. Leads to the contracts of `is_reached_in`, `is_reached`, `unreached_of` and `unreached`.
-use Rattle.std.proofs.Common.{◌≡◌, ℕ, ◌+◌, ◌<◌, ◌≤◌, ◌⊎◌, ◌↔◌, inl, inr, IsTrue, IfSome, IfNone, MatchOption, Option, Some, None, Bool, true, false, List, length, refl, sym, subst, arith, ◌∙◌}
-use Rattle.std.proofs.lemmas.Bool.{cases_lt}
-use Rattle.pg_board.specs.declared.man.Color.{Color}
-use Rattle.pg_board.specs.Bits.{has}
-use Rattle.pg_board.specs.declared.man.Kind.{Kind}
-use Rattle.pg_board.specs.Placement.{Placement}
-use Rattle.pg_position.specs.declared.rights.Wing.{Wing}
-use Rattle.pg_position.specs.declared.rights.Wing.TheVariants.{KingSide, QueenSide}
-use Rattle.pg_position.specs.declared.state.State.{State}
-use Rattle.pg_position.specs.Position.{Stands}
-use Rattle.pg_captures.specs.Counting.{men, any_man}
-use Rattle.pg_captures.specs.lemmas.BoardLemmas.{same_kind}
-use Rattle.pg_travel.specs.Origins.{counted}
-use Rattle.pg_journeys.specs.Facts.{Facts}
-use Rattle.pg_journeys.specs.Journeys.{IsPath, IsWayUnder}
-use Rattle.pg_journeys.specs.Known.{known}
-use Rattle.pg_journeys.specs.Needs.{IsReached}
-use Rattle.pg_journeys.specs.lemmas.DecidingPaths.{weigh}
-use Rattle.pg_journeys.specs.lemmas.Weights.{weigh_length}
-use Rattle.pg_journeys.specs.inner.Counting.{counts}
-use Rattle.pg_journeys.specs.inner.Counts.{of_kind}
-use Rattle.pg_journeys.specs.inner.Rings.{AreWithin}
-use Rattle.pg_journeys.specs.inner.Needing.{IsReachedIn, IsReachedOf, IsUnreached}
-use Rattle.pg_journeys.specs.inner.Sides.{facts_of, square_at, kind_at, IsSide, EndWithin}
+use Rattle.pg_journeys.proofs.Common.{◌≡◌, ℕ, ◌+◌, ◌<◌, ◌≤◌, ◌⊎◌, ◌↔◌, inl, inr, IsTrue, IfSome, IfNone, MatchOption, Option, Some, None, Bool, true, false, List, length, refl, sym, subst, arith, ◌∙◌, cases_lt, Color, has, Kind, Placement, Wing, KingSide, QueenSide, State, Stands, men, any_man, same_kind, counted, Facts, IsPath, IsWayUnder, known, IsReached, weigh, weigh_length, counts, of_kind, AreWithin, IsReachedIn, IsReachedOf, IsUnreached, facts_of, square_at, kind_at, IsSide, EndWithin, Side}
 use Rattle.pg_journeys.specs.declared.facts.Facts.{Facts as FactSets}
-use Rattle.pg_journeys.specs.declared.side.Side.{Side}
 use Rattle.pg_journeys.proofs.CostLemmas.{path_as}
 use Rattle.pg_journeys.proofs.LastRounds.{is_not}
 use Rattle.pg_journeys.proofs.SideLemmas.{goals_few}

@@ -1,13 +1,10 @@
 -- Why a line spells no problem, and that it spells one. Leads to the contract of `read_named`.
-use Rattle.std.proofs.Common.{◌≡◌, ℕ, List, [], ◌∷◌, inr, subst, ap, ◌∙◌}
-use Rattle.std.specs.Prelude.{Some}
-use Rattle.pg_position.specs.declared.moves.Move.{Move}
+use Rattle.pg_judge.proofs.Common.{◌≡◌, ℕ, List, [], ◌∷◌, inr, subst, ap, ◌∙◌, Some, Move, Begins, IsAuthor, IsEntryFault, IsGamesFault, IsName}
 use Rattle.pg_san.specs.GameText.{words}
 use Rattle.pg_san.specs.Listing.{IsTextFault}
 use Rattle.pg_san.specs.declared.fault.SanFault.{SanFault}
 use Rattle.pg_san.specs.declared.listing_fault.GamesFault.{GamesFault}
 use Rattle.pg_san.specs.declared.listing_fault.GamesFault.TheVariants.{At}
-use Rattle.pg_judge.specs.Entries.{Begins, IsAuthor, IsEntryFault, IsGamesFault, IsName}
 use Rattle.pg_judge.specs.declared.entry_fault.EntryFault.{EntryFault}
 use Rattle.pg_judge.specs.declared.entry_fault.EntryFault.TheVariants.{Name, Short, NotUtf8, Diagram, Length, Games}
 

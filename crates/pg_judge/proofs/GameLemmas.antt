@@ -1,11 +1,6 @@
 -- What two games, another one and a shorter one say of a problem. Leads to the headline of `judge`.
-use Rattle.std.proofs.Common.{◌≡◌, ℕ, ◌<◌, ◌≤◌, List, [], ◌∷◌, ◌++◌, length, ap, sym, subst, arith, ◌∙◌}
-use Rattle.std.specs.Prelude.{Some, slice_get}
+use Rattle.pg_judge.proofs.Common.{◌≡◌, ℕ, ◌<◌, ◌≤◌, List, [], ◌∷◌, ◌++◌, length, ap, sym, subst, arith, ◌∙◌, Some, slice_get, Placement, Move, IsSolution, IsExactAnswer, AreSolutions, IsVerdict, IsFinding, IsGiven, IsSaidSound, IsSound, Entry, Finding, Settled, NotSound, NotSettled}
 use Rattle.std.proofs.lemmas.Option.{get_or_from_slice_get, slice_get_within}
-use Rattle.pg_board.specs.Placement.{Placement}
-use Rattle.pg_position.specs.declared.moves.Move.{Move}
-use Rattle.pg_checker.specs.Answer.{IsSolution, IsExactAnswer, AreSolutions}
-use Rattle.pg_texts.specs.Report.{IsVerdict}
 use Rattle.pg_texts.specs.declared.verdict.Verdict.{Verdict}
 use Rattle.pg_texts.specs.declared.verdict.Verdict.TheVariants.{Sound}
 use Rattle.pg_cooks.specs.Unsound.{IsUnsound, HasNoAnswer}
@@ -13,11 +8,7 @@ use Rattle.pg_cooks.proofs.CookLemmas.{not_sound, shorter}
 use Rattle.pg_checker.specs.Listed.{IsListFault}
 use Rattle.pg_checker.specs.declared.fault.ListFault.{ListFault}
 use Rattle.pg_checker.specs.declared.fault.ListFault.TheVariants.{WrongLength, NotReaching}
-use Rattle.pg_judge.specs.Ruling.{IsFinding, IsGiven, IsSaidSound, IsSound}
-use Rattle.pg_judge.specs.declared.entry.Entry.{Entry}
 use Rattle.pg_judge.specs.declared.given.Given.TheVariants.{OfPlies, EndsElsewhere}
-use Rattle.pg_judge.specs.declared.ruling.Finding.{Finding}
-use Rattle.pg_judge.specs.declared.ruling.Finding.TheVariants.{Settled, NotSound, NotSettled}
 
 -- where no list is the answer, no list of one game is
 pub unsound_by_none : (d : Placement) (n : ℕ) → HasNoAnswer d n → IsUnsound d n

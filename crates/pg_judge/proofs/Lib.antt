@@ -1,3 +1,4 @@
+mod Common
 pub mod GameLemmas
 pub mod RowLemmas
 mod EntryLemmas

@@ -1,29 +1,13 @@
 -- The parts of a row. Leads to the contract of `write_row`.
-use Rattle.std.proofs.Common.{◌≡◌, ℕ, ◌+◌, ◌≤◌, List, [], ◌∷◌, ◌++◌, Option, Some, length, refl, sym, ap, subst, arith, ◌∙◌}
-use Rattle.std.specs.Prelude.{codes, decimal}
-use Rattle.std.specs.Io.KnownBytes.{Appends}
+use Rattle.pg_judge.proofs.Common.{◌≡◌, ℕ, ◌+◌, ◌≤◌, List, [], ◌∷◌, ◌++◌, Option, Some, length, refl, sym, ap, subst, arith, ◌∙◌, codes, decimal, Appends, Placement, Move, AddsSome, IsSolution, foreign_text, apart_text, pair_text, AddsLongest, IsLongestGame, IsMovetext, IsBeside, IsFinding, IsGiven, ArePair, AreShown, IsDetail, IsNth, IsOther, IsRowOf, IsSecond, IsTold, IsWritable, IsWritten, below_text, cooks_text, head_text, Entry, Evidence, Finding, Settled, NotSound, NotSettled}
 use Rattle.std.proofs.KnownBytes.{Appends-trans}
 use Rattle.std.proofs.lemmas.List.{length-append, append-nil, nil_from_length, append_assoc}
-use Rattle.pg_board.specs.Placement.{Placement}
-use Rattle.pg_position.specs.declared.moves.Move.{Move}
-use Rattle.pg_certificate.specs.Pushing.{AddsSome}
 use Rattle.pg_san.specs.Games.{IsFromArray}
-use Rattle.pg_checker.specs.Answer.{IsSolution}
 use Rattle.pg_fen.specs.Lengths.{length_text}
-use Rattle.pg_cooks.specs.Cooks.{foreign_text}
-use Rattle.pg_cooks.specs.Parting.{apart_text, pair_text}
-use Rattle.pg_texts.specs.Movetext.{AddsLongest, IsLongestGame, IsMovetext}
 use Rattle.pg_cooks.specs.Standing.{IsKnownText}
-use Rattle.pg_judge.specs.Findings.{IsBeside}
-use Rattle.pg_judge.specs.Ruling.{IsFinding, IsGiven}
-use Rattle.pg_judge.specs.Rows.{ArePair, AreShown, IsDetail, IsNth, IsOther, IsRowOf, IsSecond, IsTold, IsWritable, IsWritten, below_text, cooks_text, head_text}
-use Rattle.pg_judge.specs.declared.entry.Entry.{Entry}
 use Rattle.pg_judge.specs.declared.given.Given.{Given}
 use Rattle.pg_judge.specs.declared.old.Old.{Old}
-use Rattle.pg_judge.specs.declared.ruling.Evidence.{Evidence}
 use Rattle.pg_judge.specs.declared.ruling.Evidence.TheVariants.{Several, Another, Shorter}
-use Rattle.pg_judge.specs.declared.ruling.Finding.{Finding}
-use Rattle.pg_judge.specs.declared.ruling.Finding.TheVariants.{Settled, NotSound, NotSettled}
 use Rattle.pg_judge.specs.declared.ruling.Ruling.{Ruling}
 
 -- ---- games

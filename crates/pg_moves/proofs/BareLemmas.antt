@@ -1,23 +1,7 @@
 -- The king with none of his own men on the board: where he is not attacked then, no man of his shelters him.
-use Rattle.std.proofs.Common.{◌≡◌, ◌≢◌, ℕ, ◌<◌, inl, inr, Option, Some, None, true, false, cond, ◌&&◌, refl, sym, ap, subst, ◌∙◌}
-use Rattle.std.proofs.lemmas.Bool.Decides.{eqb_tells}
-use Rattle.pg_board.specs.declared.man.Color.{Color}
-use Rattle.pg_board.specs.declared.man.Color.TheVariants.{White, Black}
-use Rattle.pg_board.specs.declared.man.Kind.{Kind}
-use Rattle.pg_board.specs.declared.man.Kind.TheVariants.{Pawn, Knight, Bishop, Rook, Queen, King}
-use Rattle.pg_board.specs.declared.man.Man.{Man}
+use Rattle.pg_moves.proofs.Common.{◌≡◌, ◌≢◌, ℕ, ◌<◌, inl, inr, Option, Some, None, true, false, cond, ◌&&◌, refl, sym, ap, subst, ◌∙◌, eqb_tells, Color, White, Black, Kind, Pawn, Knight, Bishop, Rook, Queen, King, Man, man, other, color_eq, kind_eq, is_of, is_man, is_kind, king_of, has, Placement, get, without, IsFirst, get_on, get-write_same, get-write_other, State, IsBetween, IsSetOf, IsClear, AttacksFrom, Attacks, Stands, IsPosition, IsOnlyKing, IsOwn, FreeOff, only}
 use Rattle.pg_board.specs.declared.sets.Sets.{Sets}
-use Rattle.pg_board.specs.Men.{man, other, color_eq, kind_eq, is_of, is_man, is_kind, king_of}
-use Rattle.pg_board.specs.Bits.{has}
-use Rattle.pg_board.specs.Placement.{Placement, get, without, IsFirst}
-use Rattle.pg_board.specs.lemmas.Placements.{get_on, get-write_same, get-write_other}
 use Rattle.pg_board.specs.inner.Sets.{Shows, AreWords, IsSound, man_in, shown, shows_itself}
-use Rattle.pg_position.specs.declared.state.State.{State}
-use Rattle.pg_position.specs.Geometry.{IsBetween}
-use Rattle.pg_board.specs.SquareSets.{IsSetOf}
-use Rattle.pg_position.specs.Attack.{IsClear, AttacksFrom, Attacks}
-use Rattle.pg_position.specs.Position.{Stands, IsPosition, IsOnlyKing}
-use Rattle.pg_moves.specs.Targets.{IsOwn, FreeOff, only}
 use Rattle.pg_moves.proofs.OnlyLemmas.{only_kept, only_other}
 use Rattle.pg_moves.proofs.LeafLemmas.{free_lifted, the_king}
 

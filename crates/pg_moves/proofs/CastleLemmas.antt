@@ -1,26 +1,5 @@
 -- Castling by its own test: a castling that the rules allow leaves the king unattacked.
-use Rattle.std.proofs.Common.{◌≡◌, ◌≢◌, ℕ, ◌<◌, ◌⊎◌, inl, inr, Some, None, refl, sym, ap, subst, ◌∙◌, arith}
-use Rattle.std.proofs.lemmas.Bool.Decides.{eqb_tells}
-use Rattle.pg_board.specs.declared.man.Color.{Color}
-use Rattle.pg_board.specs.declared.man.Color.TheVariants.{White, Black}
-use Rattle.pg_board.specs.declared.man.Kind.{Kind}
-use Rattle.pg_board.specs.declared.man.Kind.TheVariants.{Pawn, Rook, King}
-use Rattle.pg_board.specs.declared.man.Man.{Man}
-use Rattle.pg_board.specs.Squares.{file, rank}
-use Rattle.pg_board.specs.Men.{man, other}
-use Rattle.pg_board.specs.Placement.{Placement, get, without}
-use Rattle.pg_board.specs.lemmas.Placements.{get-write_same, get-write_other}
-use Rattle.pg_position.specs.declared.rights.Wing.{Wing}
-use Rattle.pg_position.specs.declared.rights.Wing.TheVariants.{KingSide, QueenSide}
-use Rattle.pg_position.specs.declared.state.State.{State}
-use Rattle.pg_position.specs.declared.moves.Move.{Move}
-use Rattle.pg_position.specs.declared.moves.StepKind.TheVariants.{Castling}
-use Rattle.pg_position.specs.Geometry.{IsBetween}
-use Rattle.pg_position.specs.Attack.{IsClear, AttacksFrom, Attacks}
-use Rattle.pg_position.specs.Position.{Stands, HasOneKing, IsOnlyKing, InCheck, IsPosition, RightsClause, IsHome}
-use Rattle.pg_position.specs.Step.{IsLegal, IsCastling, IsOnBoard, relocated, after, Step}
-use Rattle.pg_position.specs.Squares.{king_home, rook_home, king_crossed, king_target}
-use Rattle.pg_position.proofs.StepLemmas.{same_kind, not_other}
+use Rattle.pg_moves.proofs.Common.{◌≡◌, ◌≢◌, ℕ, ◌<◌, ◌⊎◌, inl, inr, Some, None, refl, sym, ap, subst, ◌∙◌, arith, eqb_tells, Color, White, Black, Kind, Pawn, Rook, King, Man, file, rank, man, other, Placement, get, without, get-write_same, get-write_other, Wing, KingSide, QueenSide, State, Move, Castling, IsBetween, IsClear, AttacksFrom, Attacks, Stands, HasOneKing, IsOnlyKing, InCheck, IsPosition, RightsClause, IsHome, IsLegal, IsCastling, IsOnBoard, relocated, after, Step, king_home, rook_home, king_crossed, king_target, same_kind, not_other}
 use Rattle.pg_moves.proofs.LeafLemmas.{one_king}
 use Rattle.pg_moves.proofs.KingLemmas.{not_end}
 

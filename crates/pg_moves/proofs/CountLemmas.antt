@@ -1,22 +1,9 @@
 -- The games of k plies, as a list, and their number.
-use Rattle.std.proofs.Common.{◌≡◌, ℕ, zero, suc, ◌+◌, ◌-◌, ◌<◌, ◌≤◌, ◌^◌, inl, inr, List, [], ◌∷◌, ◌++◌, length, length-append, map, take, get_or, refl, sym, ap, ap₂, subst, arith, ◌∙◌}
-use Rattle.std.specs.List.{Contains, sum_by}
-use Rattle.std.specs.declared.cmp.Ordering.TheVariants.{Less, Equal}
-use Rattle.std.specs.List.Sorted.{IsStrictlySortedBy}
-use Rattle.std.proofs.lemmas.Cmp.{tied_itself}
+use Rattle.pg_moves.proofs.Common.{◌≡◌, ℕ, zero, suc, ◌+◌, ◌-◌, ◌<◌, ◌≤◌, ◌^◌, inl, inr, List, [], ◌∷◌, ◌++◌, length, length-append, map, take, get_or, refl, sym, ap, ap₂, subst, arith, ◌∙◌, Contains, sum_by, Less, Equal, IsStrictlySortedBy, tied_itself, sum_by_more, sum_by_more_le, sum_by-cons, Contains-append_left, Contains-append_right, Contains-append_cases, State, Move, IsPosition, Legal, IsLegal, legal_position, move_cmp, IsMoveList, IsFollowed, IsGameOf, IsGameList, IsGameCount, IsCountFault}
 use Rattle.std.proofs.lemmas.List.{length-map, take_all}
-use Rattle.std.proofs.lemmas.List.Sums.{sum_by_more, sum_by_more_le, sum_by-cons}
-use Rattle.std.proofs.lemmas.List.Elements.{Contains-append_left, Contains-append_right, Contains-append_cases}
-use Rattle.pg_position.specs.declared.state.State.{State}
-use Rattle.pg_position.specs.declared.moves.Move.{Move}
-use Rattle.pg_position.specs.Position.{IsPosition}
-use Rattle.pg_position.specs.Step.{Legal, IsLegal}
 use Rattle.pg_position.specs.Game.{IsGame, IsOnce}
-use Rattle.pg_position.proofs.FutureLemmas.{legal_position}
 use Rattle.pg_moves.specs.declared.fault.CountFault.{CountFault}
 use Rattle.pg_moves.specs.declared.fault.CountFault.TheVariants.{TooDeep, Overflow, Memory}
-use Rattle.pg_moves.specs.Moves.{move_cmp, IsMoveList}
-use Rattle.pg_moves.specs.Counts.{IsFollowed, IsGameOf, IsGameList, IsGameCount, IsCountFault}
 use Rattle.pg_moves.proofs.SortLemmas.{Contains-head, Contains-later, Contains-cons, Contains-none, sorted_below, sorted_rest}
 use Rattle.pg_moves.proofs.PlaceLemmas.{move_cmp_total}
 use Rattle.pg_moves.proofs.ListLemmas.{moves_of, moves_of_is, move_list_is}

@@ -1,23 +1,7 @@
 -- What the rules of chess say can be decided: antt has no excluded middle.
-use Rattle.std.proofs.Common.{◌≡◌, ℕ, suc, ◌+◌, ◌⊎◌, inl, inr, Some, None, refl, subst}
-use Rattle.pg_board.specs.declared.man.Color.{Color}
-use Rattle.pg_board.specs.declared.man.Color.TheVariants.{White, Black}
-use Rattle.pg_board.specs.declared.man.Kind.{Kind}
-use Rattle.pg_board.specs.declared.man.Kind.TheVariants.{Pawn, Knight, Bishop, Rook, Queen, King}
-use Rattle.pg_position.specs.declared.rights.Wing.TheVariants.{KingSide, QueenSide}
-use Rattle.pg_position.specs.declared.state.State.{State}
-use Rattle.pg_position.specs.declared.moves.Move.{Move}
-use Rattle.pg_position.specs.declared.moves.StepKind.{StepKind}
-use Rattle.pg_position.specs.declared.moves.StepKind.TheVariants.{Plain, Capture, DoubleAdvance, EnPassant, Promotion, Castling}
-use Rattle.pg_board.specs.Placement.{Placement as Board, get}
-use Rattle.pg_board.specs.Squares.{file, rank}
-use Rattle.pg_board.specs.Men.{other, man}
+use Rattle.pg_moves.proofs.Common.{◌≡◌, ℕ, suc, ◌+◌, ◌⊎◌, inl, inr, Some, None, refl, subst, Color, White, Black, Kind, Pawn, Knight, Bishop, Rook, Queen, King, KingSide, QueenSide, State, Move, StepKind, Plain, Capture, DoubleAdvance, EnPassant, Promotion, Castling, get, file, rank, other, man, apart, IsForward, OnOneLine, OnOneDiagonal, InPattern, IsWithin, IsBetween, IsClear, Reaches, AttacksFrom, Attacks, Stands, InCheck, holds, IsEnemy, Goes, MustPromote, IsWay, after, IsOnBoard, Step, Legal, king_home, rook_home, ahead, home_rank, last_rank, king_crossed, king_target}
+use Rattle.pg_board.specs.Placement.{Placement as Board}
 use Rattle.pg_board.specs.lemmas.Decisions.{dec_along, dec_and, dec_and3, dec_and4, dec_and5, dec_or, dec_not, dec_implies, dec_equal, dec_at_most, dec_some_below, dec_all_below, dec_true, dec_option, dec_kind, dec_kinds, dec_get}
-use Rattle.pg_position.specs.Geometry.{apart, IsForward, OnOneLine, OnOneDiagonal, InPattern, IsWithin, IsBetween}
-use Rattle.pg_position.specs.Attack.{IsClear, Reaches, AttacksFrom, Attacks}
-use Rattle.pg_position.specs.Position.{Stands, InCheck, holds}
-use Rattle.pg_position.specs.Step.{IsEnemy, Goes, MustPromote, IsWay, after, IsOnBoard, Step, Legal}
-use Rattle.pg_position.specs.Squares.{king_home, rook_home, ahead, home_rank, last_rank, king_crossed, king_target}
 
 -- 1 ways
 

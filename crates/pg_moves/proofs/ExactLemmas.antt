@@ -1,19 +1,5 @@
 -- A man that may be pinned: his legal moves are his advances to where each attack on his king is parried.
-use Rattle.std.proofs.Common.{◌≡◌, ◌≢◌, ℕ, ◌<◌, ◌⊎◌, inl, inr, true, false, ◌&&◌, None, sym, subst}
-use Rattle.pg_board.specs.declared.man.Kind.{Kind}
-use Rattle.pg_board.specs.declared.man.Kind.TheVariants.{Pawn, King}
-use Rattle.pg_board.specs.Bits.{has}
-use Rattle.pg_board.specs.SquareSets.{IsSetOf}
-use Rattle.pg_board.proofs.SetLemmas.{set_of_both}
-use Rattle.pg_position.specs.declared.state.State.{State}
-use Rattle.pg_position.specs.declared.moves.Move.{Move}
-use Rattle.pg_position.specs.Position.{Stands}
-use Rattle.pg_position.specs.Step.{IsLegal}
-use Rattle.pg_position.proofs.StepLemmas.{same_kind}
-use Rattle.pg_moves.specs.Targets.{plain_move, Advances, CapturesEnPassant, IsOrdinary}
-use Rattle.pg_moves.specs.inner.Sources.{IsExact}
-use Rattle.pg_moves.specs.inner.Parries.{IsInVain, IsInShelter}
-use Rattle.pg_moves.specs.inner.Guards.{IsGuardedMan}
+use Rattle.pg_moves.proofs.Common.{◌≡◌, ◌≢◌, ℕ, ◌<◌, ◌⊎◌, inl, inr, true, false, ◌&&◌, None, sym, subst, Kind, Pawn, King, has, IsSetOf, set_of_both, State, Move, Stands, IsLegal, same_kind, plain_move, Advances, CapturesEnPassant, IsOrdinary, IsExact, IsInVain, IsInShelter, IsGuardedMan}
 use Rattle.pg_moves.proofs.SearchLemmas.{promotes}
 use Rattle.pg_moves.proofs.ShelterLemmas.{parry_legal}
 use Rattle.pg_moves.proofs.ParryLemmas.{parried}

@@ -1,25 +1,5 @@
 -- Men that cannot be pinned: the parries of an attack on their king are the same for each of them.
-use Rattle.std.proofs.Common.{◌≡◌, ◌≢◌, ℕ, ◌<◌, inl, inr, Bool, true, false, ◌||◌, ◌&&◌, ap, Some, None, refl, sym, subst, ◌∙◌}
-use Rattle.std.proofs.lemmas.Bool.Decides.{eqb_tells}
-use Rattle.pg_board.specs.declared.man.Color.{Color}
-use Rattle.pg_board.specs.declared.man.Kind.{Kind}
-use Rattle.pg_board.specs.declared.man.Kind.TheVariants.{Bishop, Rook, King}
-use Rattle.pg_board.specs.declared.man.Man.{Man}
-use Rattle.pg_board.specs.Bits.{has}
-use Rattle.pg_board.specs.Men.{man, is_man, other, king_of}
-use Rattle.pg_board.specs.lemmas.Equalities.{is_man_decides}
-use Rattle.pg_board.proofs.SetLemmas.{and_true}
-use Rattle.pg_board.specs.Placement.{Placement, get, without, IsFirst}
-use Rattle.pg_board.specs.lemmas.Placements.{get-write_same, get-write_other}
-use Rattle.pg_board.specs.SquareSets.{IsSetOf}
-use Rattle.pg_position.specs.declared.state.State.{State}
-use Rattle.pg_position.specs.Geometry.{IsBetween}
-use Rattle.pg_position.specs.Attack.{IsClear, AttacksFrom, Attacks}
-use Rattle.pg_position.specs.Position.{Stands, IsPosition, IsOnlyKing}
-use Rattle.pg_position.proofs.StepLemmas.{same_side, not_other}
-use Rattle.pg_moves.specs.Targets.{IsOwn}
-use Rattle.pg_moves.specs.inner.Parries.{AreParries, StaysAttacked, IsPinnedAlong}
-use Rattle.pg_moves.specs.inner.Guards.{IsGuardedMan, GuardsOff, AreOff}
+use Rattle.pg_moves.proofs.Common.{◌≡◌, ◌≢◌, ℕ, ◌<◌, inl, inr, Bool, true, false, ◌||◌, ◌&&◌, ap, Some, None, refl, sym, subst, ◌∙◌, eqb_tells, Color, Kind, Bishop, Rook, King, Man, has, man, is_man, other, king_of, is_man_decides, and_true, Placement, get, without, IsFirst, get-write_same, get-write_other, IsSetOf, State, IsBetween, IsClear, AttacksFrom, Attacks, Stands, IsPosition, IsOnlyKing, same_side, not_other, IsOwn, AreParries, StaysAttacked, IsPinnedAlong, IsGuardedMan, GuardsOff, AreOff}
 use Rattle.pg_moves.proofs.LeafLemmas.{the_king}
 use Rattle.pg_moves.proofs.ParryLemmas.{in_vain, in_shelter}
 use Rattle.pg_moves.proofs.PinLemmas.{on_no_line}

@@ -1,24 +1,5 @@
 -- The king's steps: legal where he takes none of his own men and would not be attacked with himself lifted.
-use Rattle.std.proofs.Common.{◌≡◌, ◌≢◌, ◌↔◌, ℕ, ◌<◌, ◌⊎◌, inl, inr, IsTrue, Bool, not, Option, Some, None, true, false, refl, sym, ap, subst, ◌∙◌, arith}
-use Rattle.std.proofs.lemmas.Bool.Decides.{eqb_tells}
-use Rattle.pg_board.specs.declared.man.Color.{Color}
-use Rattle.pg_board.specs.declared.man.Color.TheVariants.{White, Black}
-use Rattle.pg_board.specs.declared.man.Kind.{Kind}
-use Rattle.pg_board.specs.declared.man.Kind.TheVariants.{Pawn, Knight, Bishop, Rook, Queen, King}
-use Rattle.pg_board.specs.declared.man.Man.{Man}
-use Rattle.pg_board.specs.Squares.{file}
-use Rattle.pg_board.specs.Men.{man, other}
-use Rattle.pg_board.specs.Placement.{Placement, get, without}
-use Rattle.pg_board.specs.lemmas.Placements.{get-write_same, get-write_other}
-use Rattle.pg_position.specs.declared.state.State.{State}
-use Rattle.pg_position.specs.declared.moves.StepKind.{StepKind}
-use Rattle.pg_position.specs.declared.moves.StepKind.TheVariants.{Plain, Capture, DoubleAdvance, EnPassant, Promotion, Castling}
-use Rattle.pg_position.specs.Geometry.{apart, IsBetween, InPattern}
-use Rattle.pg_position.specs.Attack.{IsClear, Reaches, AttacksFrom, Attacks}
-use Rattle.pg_position.specs.Position.{Stands, HasOneKing, IsOnlyKing, InCheck, IsPosition}
-use Rattle.pg_position.specs.Step.{IsLegal, IsEnemy, Goes, IsWay, relocated, board_after, after, Step}
-use Rattle.pg_position.proofs.StepLemmas.{same_kind, same_side, not_other, two_files}
-use Rattle.pg_moves.specs.Targets.{plain_move, IsOwn}
+use Rattle.pg_moves.proofs.Common.{◌≡◌, ◌≢◌, ◌↔◌, ℕ, ◌<◌, ◌⊎◌, inl, inr, IsTrue, Bool, not, Option, Some, None, true, false, refl, sym, ap, subst, ◌∙◌, arith, eqb_tells, Color, White, Black, Kind, Pawn, Knight, Bishop, Rook, Queen, King, Man, file, man, other, Placement, get, without, get-write_same, get-write_other, State, StepKind, Plain, Capture, DoubleAdvance, EnPassant, Promotion, Castling, apart, IsBetween, InPattern, IsClear, Reaches, AttacksFrom, Attacks, Stands, HasOneKing, IsOnlyKing, InCheck, IsPosition, IsLegal, IsEnemy, Goes, IsWay, relocated, board_after, after, Step, same_kind, same_side, not_other, two_files, plain_move, IsOwn}
 use Rattle.pg_moves.proofs.LeafLemmas.{one_king}
 
 pattern_apart : (c : Color) (k : Kind) (x s : ℕ) → InPattern c k x s → x ≢ s

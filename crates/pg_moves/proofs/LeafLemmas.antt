@@ -1,39 +1,9 @@
 -- How many legal moves there are, square by square.
-use Rattle.std.proofs.Common.{◌≡◌, ◌≢◌, ℕ, zero, suc, ◌+◌, ◌*◌, ◌<◌, ◌≤◌, ◌⊎◌, inl, inr, Bool, true, false, None, eqb, List, [], ◌∷◌, ◌++◌, length, length-append, ◌||◌, refl, sym, ap, subst, arith, ◌∙◌, Some}
-use Rattle.std.specs.List.{sum_by}
-use Rattle.std.proofs.lemmas.Bool.{eqb-false}
-use Rattle.std.proofs.lemmas.Bool.Decides.{Decides-eqb, eqb_tells, leb_tells}
-use Rattle.std.proofs.lemmas.List.Sums.{sum_by-cons}
-use Rattle.pg_board.specs.declared.man.Color.{Color}
-use Rattle.pg_board.specs.declared.man.Color.TheVariants.{White, Black}
-use Rattle.pg_board.specs.declared.man.Kind.{Kind}
-use Rattle.pg_board.specs.declared.man.Kind.TheVariants.{Pawn, Bishop, Rook, King}
-use Rattle.pg_board.specs.Squares.{rank}
-use Rattle.pg_board.specs.Tally.{one, count_below}
-use Rattle.pg_board.specs.lemmas.Sums.{total-none, total-suc}
-use Rattle.pg_board.specs.Bits.{has}
-use Rattle.pg_board.specs.Men.{king_of, other}
-use Rattle.pg_board.specs.Placement.{Placement, get, without, IsFirst}
-use Rattle.pg_board.specs.lemmas.Placements.{get_on}
-use Rattle.pg_position.specs.declared.state.State.{State}
-use Rattle.pg_position.specs.declared.moves.Move.{Move}
-use Rattle.pg_position.specs.Geometry.{IsForward, InPattern}
-use Rattle.pg_position.specs.Attack.{Attacks}
-use Rattle.pg_board.specs.SquareSets.{IsSetOf, HasNoneFrom, IsFirstFrom}
-use Rattle.pg_position.specs.Position.{Stands, IsOnlyKing, HasOneKing, InCheck, IsPosition}
-use Rattle.pg_position.specs.Step.{IsLegal, Goes, IsOnBoard}
-use Rattle.pg_position.specs.Squares.{home_rank, last_rank}
-use Rattle.pg_position.proofs.StepLemmas.{same_kind}
-use Rattle.pg_moves.specs.Moves.{promotion_number}
-use Rattle.pg_moves.specs.inner.Places.{place, place_of, NoneFrom, IsFirstMove, IsCountBelow, Adds}
-use Rattle.pg_moves.specs.inner.Sources.{IsExact}
-use Rattle.pg_moves.specs.Targets.{IsOwn, plain_move, Strides, Leaps, Advances, CapturesEnPassant, IsFree, FreeOff, IsOrdinary, IsTried}
-use Rattle.pg_moves.specs.Counts.{IsGameCount}
+use Rattle.pg_moves.proofs.Common.{◌≡◌, ◌≢◌, ℕ, zero, suc, ◌+◌, ◌*◌, ◌<◌, ◌≤◌, ◌⊎◌, inl, inr, Bool, true, false, None, eqb, List, [], ◌∷◌, ◌++◌, length, length-append, ◌||◌, refl, sym, ap, subst, arith, ◌∙◌, Some, sum_by, eqb-false, Decides-eqb, eqb_tells, leb_tells, sum_by-cons, Color, White, Black, Kind, Pawn, Bishop, Rook, King, rank, one, count_below, total-none, total-suc, has, king_of, other, Placement, get, without, IsFirst, get_on, State, Move, IsForward, InPattern, Attacks, IsSetOf, HasNoneFrom, IsFirstFrom, Stands, IsOnlyKing, HasOneKing, InCheck, IsPosition, IsLegal, Goes, IsOnBoard, home_rank, last_rank, same_kind, promotion_number, place, place_of, NoneFrom, IsFirstMove, IsCountBelow, Adds, IsExact, IsOwn, plain_move, Strides, Leaps, Advances, CapturesEnPassant, IsFree, FreeOff, IsOrdinary, IsTried, IsGameCount, IsPinnedAlong}
 use Rattle.pg_moves.proofs.PlaceLemmas.{promotion_low}
 use Rattle.pg_moves.proofs.ListLemmas.{on_board, list_start, list_skip, list_push, list_whole, moves_of, move_list_is}
 use Rattle.pg_moves.proofs.TargetLemmas.{Goals, legal_goals}
 use Rattle.pg_moves.proofs.SearchLemmas.{leap_last, none_numbers, promotes}
-use Rattle.pg_moves.specs.inner.Parries.{IsPinnedAlong}
 use Rattle.pg_moves.proofs.PinLemmas.{on_no_line}
 use Rattle.pg_moves.proofs.ShelterLemmas.{sure_legal, unpinned_lifted}
 use Rattle.pg_moves.proofs.PlayLemmas.{play_of}

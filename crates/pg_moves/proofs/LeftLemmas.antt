@@ -1,14 +1,6 @@
 -- The legal moves past the last one.
-use Rattle.std.proofs.Common.{◌≡◌, ℕ, ◌+◌, ◌<◌, ◌≤◌, ◌∙◌, inl, inr, true, false, Option, Some, None, MatchOption, refl, sym, subst, arith}
-use Rattle.pg_position.specs.declared.state.State.{State}
-use Rattle.pg_position.specs.declared.moves.Move.{Move}
-use Rattle.pg_moves.specs.Left.{MovesLeft, IsPeeked, IsManDone, IsNextOfMan, men_from}
-use Rattle.pg_moves.specs.inner.Sources.{IsSource, IsToldSource}
+use Rattle.pg_moves.proofs.Common.{◌≡◌, ℕ, ◌+◌, ◌<◌, ◌≤◌, ◌∙◌, inl, inr, true, false, Option, Some, None, MatchOption, refl, sym, subst, arith, State, Move, MovesLeft, IsPeeked, IsManDone, IsNextOfMan, men_from, IsSource, IsToldSource, promotion_number, IsNext, IsLast, place, place_of, NoneFrom, IsFirstMove, IsOwn, IsTried, Source}
 use Rattle.pg_moves.specs.declared.cursor.Peeked.{Peeked}
-use Rattle.pg_moves.specs.Moves.{promotion_number, IsNext, IsLast}
-use Rattle.pg_moves.specs.inner.Places.{place, place_of, NoneFrom, IsFirstMove}
-use Rattle.pg_moves.specs.Targets.{IsOwn, IsTried}
-use Rattle.pg_moves.specs.declared.sources.Source.{Source}
 use Rattle.pg_moves.proofs.ListLemmas.{on_board}
 use Rattle.pg_moves.proofs.PlaceLemmas.{promotion_low}
 use Rattle.pg_moves.proofs.SearchLemmas.{next_found, next_none, none_then, none_yet, first_block}

@@ -1,3 +1,4 @@
+mod Common
 pub mod TargetLemmas
 pub mod SortLemmas
 pub mod DecisionLemmas

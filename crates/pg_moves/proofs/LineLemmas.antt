@@ -1,9 +1,5 @@
 -- Squares between others.
-use Rattle.std.proofs.Common.{◌≡◌, ℕ, ◌+◌, ◌-◌, inl, inr, sym, arith, ◌∙◌}
-use Rattle.pg_board.specs.declared.man.Color.{Color}
-use Rattle.pg_board.specs.declared.man.Kind.TheVariants.{Bishop, Rook}
-use Rattle.pg_board.specs.Squares.{file, rank}
-use Rattle.pg_position.specs.Geometry.{apart, OnOneDiagonal, InPattern, IsWithin, IsBetween}
+use Rattle.pg_moves.proofs.Common.{◌≡◌, ℕ, ◌+◌, ◌-◌, inl, inr, sym, arith, ◌∙◌, Color, Bishop, Rook, file, rank, apart, OnOneDiagonal, InPattern, IsWithin, IsBetween}
 
 -- on a line, by numbers
 

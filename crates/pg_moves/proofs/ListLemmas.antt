@@ -1,15 +1,7 @@
 -- The list of the legal moves: there is one, and no other.
 use Rattle.std.specs.Result.{IfErr}
-use Rattle.std.proofs.Common.{Result, Ok, Err, ◌≡◌, ◌≢◌, ℕ, zero, suc, ◌+◌, ◌<◌, ◌≤◌, ◌⊎◌, inl, inr, Bool, true, false, cond, List, [], ◌∷◌, ◌++◌, length, length-append, refl, sym, ap, subst, arith, ◌∙◌}
-use Rattle.std.specs.List.{Contains, filter}
+use Rattle.pg_moves.proofs.Common.{Result, Ok, Err, ◌≡◌, ◌≢◌, ℕ, zero, suc, ◌+◌, ◌<◌, ◌≤◌, ◌⊎◌, inl, inr, Bool, true, false, cond, List, [], ◌∷◌, ◌++◌, length, length-append, refl, sym, ap, subst, arith, ◌∙◌, Contains, filter, Contains-push, Contains-push_cases, Contains-append_left, eqb_tells, leb_tells, State, Move, IsLegal, IsOnBoard, Step, move_cmp, IsMoveList, place, NoneFrom, IsFirstMove, IsListBelow}
 use Rattle.std.proofs.lemmas.List.Kept.{IsStrictlySortedBy-filter}
-use Rattle.std.proofs.lemmas.List.Elements.{Contains-push, Contains-push_cases, Contains-append_left}
-use Rattle.std.proofs.lemmas.Bool.Decides.{eqb_tells, leb_tells}
-use Rattle.pg_position.specs.declared.state.State.{State}
-use Rattle.pg_position.specs.declared.moves.Move.{Move}
-use Rattle.pg_position.specs.Step.{IsLegal, IsOnBoard, Step}
-use Rattle.pg_moves.specs.Moves.{move_cmp, IsMoveList}
-use Rattle.pg_moves.specs.inner.Places.{place, NoneFrom, IsFirstMove, IsListBelow}
 use Rattle.pg_moves.proofs.SortLemmas.{Contains-head, Contains-later, Contains-cons, Contains-none, sorted_push, sorted_none, sorted_same}
 use Rattle.pg_moves.proofs.PlaceLemmas.{move_cmp_total, place_less, same_place, place_low, moves_below, all_moves, all_ascend, all_have}
 use Rattle.pg_moves.proofs.DecisionLemmas.{dec_legal}

@@ -1,26 +1,5 @@
 -- What is known of all men of the side to move: where those go that cannot be pinned.
-use Rattle.std.proofs.Common.{◌≡◌, ◌≢◌, ℕ, ◌<◌, ◌∙◌, inl, inr, Bool, true, false, not, ◌&&◌, ◌||◌, ◌⊎◌, Some, None, refl, sym, ap, subst}
-use Rattle.pg_board.specs.declared.man.Color.{Color}
-use Rattle.pg_board.specs.declared.man.Color.TheVariants.{White, Black}
-use Rattle.pg_board.specs.declared.man.Kind.{Kind}
-use Rattle.pg_board.specs.declared.man.Kind.TheVariants.{Pawn}
-use Rattle.pg_board.specs.declared.man.Man.{Man}
-use Rattle.pg_board.specs.Bits.{has, bits_below, has-bits_below}
-use Rattle.pg_board.specs.Men.{man, is_man, is_of}
-use Rattle.pg_board.specs.Placement.{Placement, get}
-use Rattle.pg_board.specs.lemmas.Equalities.{is_man_decides}
-use Rattle.pg_board.specs.SquareSets.{IsSetOf}
-use Rattle.pg_board.proofs.SetLemmas.{and_true}
-use Rattle.pg_position.specs.declared.state.State.{State}
-use Rattle.pg_position.specs.Attack.{Reaches}
-use Rattle.pg_position.specs.Position.{Stands}
-use Rattle.pg_position.proofs.StepLemmas.{same_kind}
-use Rattle.pg_moves.specs.Targets.{IsOwn, Advances, Leaps}
-use Rattle.pg_moves.specs.declared.men.Men.{Men}
-use Rattle.pg_moves.specs.inner.Guards.{GuardsOff}
-use Rattle.pg_moves.specs.inner.Men.{AreMen, AreKept}
-use Rattle.pg_moves.specs.inner.Pawns.{IsQuiet}
-use Rattle.pg_moves.specs.inner.Sources.{IsExact}
+use Rattle.pg_moves.proofs.Common.{◌≡◌, ◌≢◌, ℕ, ◌<◌, ◌∙◌, inl, inr, Bool, true, false, not, ◌&&◌, ◌||◌, ◌⊎◌, Some, None, refl, sym, ap, subst, Color, White, Black, Kind, Pawn, Man, has, bits_below, has-bits_below, man, is_man, is_of, Placement, get, is_man_decides, IsSetOf, and_true, State, Reaches, Stands, same_kind, IsOwn, Advances, Leaps, Men, GuardsOff, AreMen, AreKept, IsQuiet, IsExact}
 use Rattle.pg_moves.proofs.ExactLemmas.{guarded_exact}
 use Rattle.pg_moves.proofs.LeafLemmas.{advances_at, piece_ordinary}
 use Rattle.pg_moves.proofs.SearchLemmas.{own_of}

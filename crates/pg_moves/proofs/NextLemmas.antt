@@ -1,13 +1,5 @@
 -- What `next_legal` answers is the next element of the list of the legal moves.
-use Rattle.std.proofs.Common.{◌≡◌, ◌⊎◌, inl, inr, Option, Some, None, MatchOption, List, [], ◌∷◌, ◌++◌, refl, sym, ap, subst, ◌∙◌}
-use Rattle.std.specs.declared.cmp.Ordering.TheVariants.{Less, Equal}
-use Rattle.std.specs.List.{Contains}
-use Rattle.std.specs.List.Sorted.{IsStrictlySortedBy}
-use Rattle.std.proofs.lemmas.Cmp.{tied_itself}
-use Rattle.std.proofs.lemmas.List.Elements.{Contains-append_right, Contains-append_cases}
-use Rattle.pg_position.specs.declared.state.State.{State}
-use Rattle.pg_position.specs.declared.moves.Move.{Move}
-use Rattle.pg_moves.specs.Moves.{move_cmp, IsMoveList, IsNext, IsLast, first_in}
+use Rattle.pg_moves.proofs.Common.{◌≡◌, ◌⊎◌, inl, inr, Option, Some, None, MatchOption, List, [], ◌∷◌, ◌++◌, refl, sym, ap, subst, ◌∙◌, Less, Equal, Contains, IsStrictlySortedBy, tied_itself, Contains-append_right, Contains-append_cases, State, Move, move_cmp, IsMoveList, IsNext, IsLast, first_in}
 use Rattle.pg_moves.proofs.PlaceLemmas.{move_cmp_total}
 use Rattle.pg_moves.proofs.SortLemmas.{Contains-head, Contains-later, Contains-cons, Contains-none, sorted_below, sorted_rest}
 

@@ -1,20 +1,5 @@
 -- Legal moves counted off the men that are still to be counted. Leads to the contracts of the count kind by kind.
-use Rattle.std.proofs.Common.{arith, ◌≡◌, ◌≢◌, ℕ, zero, suc, ◌+◌, ◌*◌, ◌<◌, ◌≤◌, inl, inr, Bool, true, false, ◌&&◌, not, cond, nat_eq, refl, sym, ap, ap₂, ◌∙◌, subst}
-use Rattle.std.proofs.lemmas.Bool.Decides.{eqb_tells}
-use Rattle.pg_board.specs.declared.man.Kind.TheVariants.{King}
-use Rattle.pg_board.specs.Men.{is_of}
-use Rattle.pg_board.specs.Placement.{get}
-use Rattle.pg_board.specs.Bits.{has, has-none}
-use Rattle.pg_board.specs.Tally.{one, total, count_below}
-use Rattle.pg_board.specs.lemmas.Sums.{total-le, total-none, total-suc, total-zero, total_changed}
-use Rattle.pg_board.proofs.SetLemmas.{and_true}
-use Rattle.pg_board.specs.SquareSets.{IsSetOf, IsFirstFrom, HasNoneFrom}
-use Rattle.pg_position.specs.declared.state.State.{State}
-use Rattle.pg_position.specs.Position.{Stands, IsPosition}
-use Rattle.pg_moves.specs.Counts.{IsGameCount}
-use Rattle.pg_moves.specs.Targets.{IsOwn}
-use Rattle.pg_moves.specs.inner.Places.{most_moves, most_of_a_man, place_of, NoneFrom, IsCountBelow, Adds}
-use Rattle.pg_moves.specs.inner.Guards.{GuardsOff, AreOff, CountsOn, CountsOff, IsCounted}
+use Rattle.pg_moves.proofs.Common.{arith, ◌≡◌, ◌≢◌, ℕ, zero, suc, ◌+◌, ◌*◌, ◌<◌, ◌≤◌, inl, inr, Bool, true, false, ◌&&◌, not, cond, nat_eq, refl, sym, ap, ap₂, ◌∙◌, subst, eqb_tells, King, is_of, get, has, has-none, one, total, count_below, total-le, total-none, total-suc, total-zero, total_changed, and_true, IsSetOf, IsFirstFrom, HasNoneFrom, State, Stands, IsPosition, IsGameCount, IsOwn, most_moves, most_of_a_man, place_of, NoneFrom, IsCountBelow, Adds, GuardsOff, AreOff, CountsOn, CountsOff, IsCounted}
 use Rattle.pg_moves.proofs.ShiftLemmas.{total_add}
 use Rattle.pg_moves.proofs.TargetLemmas.{own_set}
 use Rattle.pg_moves.proofs.SearchLemmas.{own_gap}

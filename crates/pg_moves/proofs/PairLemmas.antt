@@ -1,14 +1,5 @@
 -- The games of a few plies, summed move by move as a cursor hands the moves out.
-use Rattle.std.proofs.Common.{◌≡◌, ℕ, suc, ◌+◌, ◌≤◌, List, [], ◌∷◌, ◌++◌, length, refl, sym, subst, ◌∙◌, arith}
-use Rattle.std.specs.List.{sum_by}
-use Rattle.std.proofs.lemmas.List.Sums.{sum_by_push}
-use Rattle.pg_position.specs.declared.state.State.{State}
-use Rattle.pg_position.specs.declared.moves.Move.{Move}
-use Rattle.pg_position.specs.Position.{IsPosition}
-use Rattle.pg_position.specs.Step.{Legal}
-use Rattle.pg_position.proofs.FutureLemmas.{legal_position}
-use Rattle.pg_moves.specs.Counts.{IsGameCount}
-use Rattle.pg_moves.specs.inner.Places.{place, NoneFrom, IsFirstMove, IsListBelow}
+use Rattle.pg_moves.proofs.Common.{◌≡◌, ℕ, suc, ◌+◌, ◌≤◌, List, [], ◌∷◌, ◌++◌, length, refl, sym, subst, ◌∙◌, arith, sum_by, sum_by_push, State, Move, IsPosition, Legal, legal_position, IsGameCount, place, NoneFrom, IsFirstMove, IsListBelow}
 use Rattle.pg_moves.proofs.ListLemmas.{list_start, list_more, list_end, moves_of, moves_of_is, few_moves}
 use Rattle.pg_moves.proofs.PlayLemmas.{play_of}
 use Rattle.pg_moves.proofs.CountLemmas.{games_of, number_of, number_more, number_is, count_is, follow, follow_is, whole}

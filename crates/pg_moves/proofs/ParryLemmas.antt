@@ -1,26 +1,5 @@
 -- Moves off the squares where a check is parried leave their king attacked.
-use Rattle.std.proofs.Common.{◌≡◌, ◌≢◌, ℕ, ◌<◌, ◌⊎◌, inl, inr, Bool, true, false, ◌&&◌, ◌||◌, Option, Some, None, refl, sym, ap, subst, ◌∙◌}
-use Rattle.pg_board.specs.declared.man.Color.{Color}
-use Rattle.pg_board.specs.declared.man.Kind.{Kind}
-use Rattle.pg_board.specs.declared.man.Kind.TheVariants.{Pawn, King}
-use Rattle.pg_board.specs.declared.man.Man.{Man}
-use Rattle.pg_board.specs.Bits.{has}
-use Rattle.pg_board.specs.Men.{man, other}
-use Rattle.pg_board.specs.Placement.{Placement, get, write, without}
-use Rattle.pg_board.specs.lemmas.Placements.{get-write_other}
-use Rattle.pg_board.specs.SquareSets.{IsSetOf}
-use Rattle.pg_board.proofs.SetLemmas.{second, set_of_union, set_of_both}
-use Rattle.pg_position.specs.declared.state.State.{State}
-use Rattle.pg_position.specs.declared.moves.Move.{Move}
-use Rattle.pg_position.specs.declared.moves.StepKind.{StepKind}
-use Rattle.pg_position.specs.declared.moves.StepKind.TheVariants.{Plain, Capture, DoubleAdvance, EnPassant, Promotion, Castling}
-use Rattle.pg_position.specs.Geometry.{IsBetween}
-use Rattle.pg_position.specs.Attack.{IsClear, AttacksFrom, Attacks}
-use Rattle.pg_position.specs.Position.{Stands, IsOnlyKing, InCheck}
-use Rattle.pg_position.specs.Step.{IsLegal, IsWay, board_after, Step}
-use Rattle.pg_position.proofs.StepLemmas.{same_kind}
-use Rattle.pg_moves.specs.Targets.{Strides, Leaps, Advances, CapturesEnPassant, Covers}
-use Rattle.pg_moves.specs.inner.Parries.{StaysAttacked, IsInVain, IsParried, IsInShelter}
+use Rattle.pg_moves.proofs.Common.{◌≡◌, ◌≢◌, ℕ, ◌<◌, ◌⊎◌, inl, inr, Bool, true, false, ◌&&◌, ◌||◌, Option, Some, None, refl, sym, ap, subst, ◌∙◌, Color, Kind, Pawn, King, Man, has, man, other, Placement, get, write, without, get-write_other, IsSetOf, second, set_of_union, set_of_both, State, Move, StepKind, Plain, Capture, DoubleAdvance, EnPassant, Promotion, Castling, IsBetween, IsClear, AttacksFrom, Attacks, Stands, IsOnlyKing, InCheck, IsLegal, IsWay, board_after, Step, same_kind, Strides, Leaps, Advances, CapturesEnPassant, Covers, StaysAttacked, IsInVain, IsParried, IsInShelter}
 use Rattle.pg_moves.proofs.ShelterLemmas.{advance_off}
 use Rattle.pg_moves.proofs.ShiftLemmas.{itself}
 

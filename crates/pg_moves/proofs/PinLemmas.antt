@@ -1,24 +1,6 @@
 -- A man that shelters his king from an attack along a line: he is seen from the king's square, and with none of the king's
 -- men on the board the king is attacked along a line of that kind.
-use Rattle.std.proofs.Common.{◌≡◌, ◌≢◌, ℕ, ◌<◌, ◌⊎◌, inl, inr, ◌||◌, ◌&&◌, not, cond, nat_eq, ◌↔◌, IsTrue, Bool, true, false, Some, None, refl, sym, ap, subst, ◌∙◌, arith}
-use Rattle.std.proofs.lemmas.Bool.Decides.{eqb_tells}
-use Rattle.pg_board.specs.declared.man.Color.{Color}
-use Rattle.pg_board.specs.declared.man.Kind.{Kind}
-use Rattle.pg_board.specs.declared.man.Kind.TheVariants.{Pawn, Knight, Bishop, Rook, Queen, King}
-use Rattle.pg_board.specs.declared.man.Man.{Man}
-use Rattle.pg_board.specs.Squares.{file, rank}
-use Rattle.pg_board.specs.Bits.{has}
-use Rattle.pg_board.specs.Men.{man, other, is_man}
-use Rattle.pg_board.specs.Placement.{Placement, get, without}
-use Rattle.pg_board.specs.lemmas.Placements.{get-write_same, get-write_other}
-use Rattle.pg_board.specs.SquareSets.{IsSetOf, Meet, HasNoneFrom}
-use Rattle.pg_board.proofs.SetLemmas.{set_of_union}
-use Rattle.pg_position.specs.Geometry.{apart, OnOneLine, OnOneDiagonal, InPattern, IsBetween}
-use Rattle.pg_position.specs.Attack.{IsClear, Reaches, AttacksFrom}
-use Rattle.pg_position.proofs.LineLemmas.{pawn_near, knight_near, king_near}
-use Rattle.pg_position.proofs.ReachLemmas.{between_turn}
-use Rattle.pg_moves.specs.Targets.{IsOwn, only}
-use Rattle.pg_moves.specs.inner.Parries.{AreParries, IsLineAttacker, IsLineKind, IsPinnedAlong}
+use Rattle.pg_moves.proofs.Common.{◌≡◌, ◌≢◌, ℕ, ◌<◌, ◌⊎◌, inl, inr, ◌||◌, ◌&&◌, not, cond, nat_eq, ◌↔◌, IsTrue, Bool, true, false, Some, None, refl, sym, ap, subst, ◌∙◌, arith, eqb_tells, Color, Kind, Pawn, Knight, Bishop, Rook, Queen, King, Man, file, rank, has, man, other, is_man, Placement, get, without, get-write_same, get-write_other, IsSetOf, Meet, HasNoneFrom, set_of_union, apart, OnOneLine, OnOneDiagonal, InPattern, IsBetween, IsClear, Reaches, AttacksFrom, pawn_near, knight_near, king_near, between_turn, IsOwn, only, AreParries, IsLineAttacker, IsLineKind, IsPinnedAlong}
 use Rattle.pg_moves.proofs.LineLemmas.{same_square, within_same}
 use Rattle.pg_moves.proofs.WayLemmas.{men_are, clear_turn, between_met}
 use Rattle.pg_moves.proofs.OnlyLemmas.{only_other}

@@ -1,21 +1,7 @@
 -- The canonical order, and the place of a move among all 64 * 64 * 7.
-use Rattle.std.proofs.Common.{◌≡◌, ◌≢◌, ℕ, zero, suc, ◌/◌, ◌%◌, ◌<◌, inl, inr, Option, Some, None, List, [], ◌∷◌, ◌++◌, refl, sym, ap, subst, arith, ◌∙◌}
-use Rattle.std.specs.declared.cmp.Ordering.TheVariants.{Less, Equal}
+use Rattle.pg_moves.proofs.Common.{◌≡◌, ◌≢◌, ℕ, zero, suc, ◌/◌, ◌%◌, ◌<◌, inl, inr, Option, Some, None, List, [], ◌∷◌, ◌++◌, refl, sym, ap, subst, arith, ◌∙◌, Less, Equal, IsTotalOrder, nat_cmp_is, Contains, IsStrictlySortedBy, nat_cmp_total, on_total, then_total, eqb_tells, Contains-append_left, Contains-push, Contains-push_cases, Kind, below_seven, Pawn, Knight, Bishop, Rook, Queen, King, Move, IsOnBoard, promotion_number, move_cmp, place}
 use Rattle.std.specs.Ordering.{nat_cmp, ordering_then}
-use Rattle.std.specs.Cmp.{IsTotalOrder, nat_cmp_is}
-use Rattle.std.specs.List.{Contains}
-use Rattle.std.specs.List.Sorted.{IsStrictlySortedBy}
-use Rattle.std.proofs.lemmas.Cmp.{nat_cmp_total, on_total, then_total}
-use Rattle.std.proofs.lemmas.Bool.Decides.{eqb_tells}
-use Rattle.std.proofs.lemmas.List.Elements.{Contains-append_left, Contains-push, Contains-push_cases}
-use Rattle.pg_board.specs.declared.man.Kind.{Kind}
-use Rattle.pg_board.specs.lemmas.Sums.{below_seven}
 use Rattle.pg_board.specs.lemmas.Kinds.{each_kind}
-use Rattle.pg_board.specs.declared.man.Kind.TheVariants.{Pawn, Knight, Bishop, Rook, Queen, King}
-use Rattle.pg_position.specs.declared.moves.Move.{Move}
-use Rattle.pg_position.specs.Step.{IsOnBoard}
-use Rattle.pg_moves.specs.Moves.{promotion_number, move_cmp}
-use Rattle.pg_moves.specs.inner.Places.{place}
 use Rattle.pg_moves.proofs.SortLemmas.{sorted_push, sorted_none, Contains-none}
 
 pub move_cmp_total : IsTotalOrder move_cmp

@@ -1,10 +1,5 @@
 -- Playing a legal move, as a function.
-use Rattle.std.proofs.Common.{◌≡◌}
-use Rattle.pg_position.specs.declared.state.State.{State}
-use Rattle.pg_position.specs.declared.moves.Move.{Move}
-use Rattle.pg_position.specs.Position.{IsPosition}
-use Rattle.pg_position.specs.Step.{Legal, IsLegal}
-use Rattle.pg_position.proofs.FutureLemmas.{one_result}
+use Rattle.pg_moves.proofs.Common.{◌≡◌, State, Move, IsPosition, Legal, IsLegal, one_result}
 use Rattle.pg_moves.proofs.DecisionLemmas.{dec_legal}
 
 pub found_or : {A : Type 0} {P : A → Type 0} → A → Dec ((x : A) × P x) → A

@@ -1,32 +1,5 @@
 -- Pawns that are counted all at once: which may be, and that the count is right.
-use Rattle.std.proofs.Common.{arith, ◌≡◌, ◌≢◌, ℕ, ◌+◌, ◌<◌, ◌≤◌, ◌⊎◌, inl, inr, Bool, true, false, ◌&&◌, ◌||◌, eqb, not, Option, None, Some, refl, sym, ap, ap₂, ◌∙◌, subst}
-use Rattle.std.specs.Bool.{Decides}
-use Rattle.std.proofs.lemmas.Bool.Decides.{eqb_tells, Decides-at, Decides-or, Decides-and, Decides-eqb, Decides-like}
-use Rattle.pg_board.specs.declared.man.Color.{Color}
-use Rattle.pg_board.specs.declared.man.Color.TheVariants.{White, Black}
-use Rattle.pg_board.specs.declared.man.Kind.TheVariants.{Pawn}
-use Rattle.pg_board.specs.declared.man.Man.{Man}
-use Rattle.pg_board.specs.Squares.{file, rank}
-use Rattle.pg_board.specs.Men.{is_man, man, other}
-use Rattle.pg_board.specs.lemmas.Equalities.{is_man_decides}
-use Rattle.pg_board.specs.Placement.{Placement, get}
-use Rattle.pg_board.specs.Bits.{has, bits_below, has-bits_below, has-none}
-use Rattle.pg_board.specs.Tally.{one, total, count_below}
-use Rattle.pg_board.specs.lemmas.Sums.{count_below_same, one-le, total-zero, total_same, total_changed}
-use Rattle.pg_position.specs.declared.state.State.{State}
-use Rattle.pg_position.specs.Geometry.{IsForward, InPattern}
-use Rattle.pg_position.specs.Attack.{IsClear, Reaches}
-use Rattle.pg_board.specs.SquareSets.{IsSetOf}
-use Rattle.pg_position.specs.Position.{IsPosition, PawnsClause, Stands, IsVacant}
-use Rattle.pg_position.specs.Step.{IsEnemy, Goes}
-use Rattle.pg_position.specs.Squares.{ahead, home_rank}
-use Rattle.pg_position.proofs.LineLemmas.{pawn_near}
-use Rattle.pg_board.proofs.SetLemmas.{and_true, set_of_rest, set_none}
-use Rattle.pg_moves.specs.inner.Places.{most_of_a_man, place_of, Adds}
-use Rattle.pg_moves.specs.inner.Guards.{GuardsOff, AreOff, CountsOn}
-use Rattle.pg_moves.specs.Targets.{Advances, Strides, Leaps, CapturesEnPassant}
-use Rattle.pg_moves.specs.declared.pawns.PawnMoves.{PawnMoves}
-use Rattle.pg_moves.specs.inner.Pawns.{forward, IsInside, AreWays, IsQuiet, to_west, to_east, moves_from}
+use Rattle.pg_moves.proofs.Common.{arith, ◌≡◌, ◌≢◌, ℕ, ◌+◌, ◌<◌, ◌≤◌, ◌⊎◌, inl, inr, Bool, true, false, ◌&&◌, ◌||◌, eqb, not, Option, None, Some, refl, sym, ap, ap₂, ◌∙◌, subst, Decides, eqb_tells, Decides-at, Decides-or, Decides-and, Decides-eqb, Decides-like, Color, White, Black, Pawn, Man, file, rank, is_man, man, other, is_man_decides, Placement, get, has, bits_below, has-bits_below, has-none, one, total, count_below, count_below_same, one-le, total-zero, total_same, total_changed, State, IsForward, InPattern, IsClear, Reaches, IsSetOf, IsPosition, PawnsClause, Stands, IsVacant, IsEnemy, Goes, ahead, home_rank, pawn_near, and_true, set_of_rest, set_none, most_of_a_man, place_of, Adds, GuardsOff, AreOff, CountsOn, Advances, Strides, Leaps, CapturesEnPassant, PawnMoves, forward, IsInside, AreWays, IsQuiet, to_west, to_east, moves_from}
 use Rattle.pg_moves.proofs.ShiftLemmas.{itself, total_add}
 use Rattle.pg_moves.proofs.LeafLemmas.{exact_adds, pawn_ordinary}
 use Rattle.pg_moves.proofs.ExactLemmas.{guarded_exact}

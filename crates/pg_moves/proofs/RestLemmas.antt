@@ -1,21 +1,5 @@
 -- The further moves of the man that moved last, as a set.
-use Rattle.std.proofs.Common.{◌≡◌, ℕ, ◌+◌, ◌<◌, ◌≤◌, inl, inr, true, false, not, ◌&&◌, Option, Some, None, refl, sym, ap, subst, arith, ◌∙◌}
-use Rattle.std.proofs.lemmas.Bool.Decides.{leb_tells}
-use Rattle.pg_board.specs.Bits.{has}
-use Rattle.pg_board.specs.SquareSets.{IsSetOf, HasNoneFrom, IsFirstFrom, IsLastIn}
-use Rattle.pg_board.proofs.SetLemmas.{set_none, set_of_rest, set_like}
-use Rattle.pg_position.specs.declared.state.State.{State}
-use Rattle.pg_position.specs.declared.moves.Move.{Move}
-use Rattle.pg_position.specs.Step.{IsLegal, IsOnBoard}
-use Rattle.pg_moves.specs.Left.{MovesLeft, IsReady, IsTurn, IsManDone, IsNextOfMan, IsRest, IsRestOf, IsOneByOne}
-use Rattle.pg_moves.specs.inner.Places.{place, place_of, IsFirstMove}
-use Rattle.pg_moves.specs.inner.Sources.{IsToldSource, IsExact}
-use Rattle.pg_moves.specs.inner.Men.{AreToCome}
-use Rattle.pg_moves.specs.declared.men.Men.{Men}
-use Rattle.pg_moves.specs.declared.turns.Turn.{Turn}
-use Rattle.pg_moves.specs.Moves.{promotion_number, IsBefore}
-use Rattle.pg_moves.specs.Targets.{plain_move}
-use Rattle.pg_moves.specs.declared.sources.Source.{Source}
+use Rattle.pg_moves.proofs.Common.{◌≡◌, ℕ, ◌+◌, ◌<◌, ◌≤◌, inl, inr, true, false, not, ◌&&◌, Option, Some, None, refl, sym, ap, subst, arith, ◌∙◌, leb_tells, has, IsSetOf, HasNoneFrom, IsFirstFrom, IsLastIn, set_none, set_of_rest, set_like, State, Move, IsLegal, IsOnBoard, MovesLeft, IsReady, IsTurn, IsManDone, IsNextOfMan, IsRest, IsRestOf, IsOneByOne, place, place_of, IsFirstMove, IsToldSource, IsExact, AreToCome, Men, Turn, promotion_number, IsBefore, plain_move, Source}
 use Rattle.pg_moves.proofs.ListLemmas.{on_board}
 use Rattle.pg_moves.proofs.PlaceLemmas.{move_cmp_total, promotion_low, place_less}
 use Rattle.pg_moves.proofs.SearchLemmas.{less_place}

@@ -1,30 +1,6 @@
 -- The steps of a search for the next legal move.
-use Rattle.std.proofs.Common.{◌≡◌, ◌≢◌, ℕ, suc, ◌+◌, ◌<◌, ◌≤◌, ◌⊎◌, inl, inr, Option, Some, None, MatchOption, Bool, true, false, IsTrue, refl, sym, ap, subst, arith, ◌∙◌}
-use Rattle.std.specs.declared.cmp.Ordering.TheVariants.{Less, Equal}
-use Rattle.std.proofs.lemmas.Cmp.{tied_itself}
-use Rattle.std.proofs.lemmas.Bool.Decides.{eqb_tells, leb_tells}
-use Rattle.pg_position.specs.declared.state.State.{State}
-use Rattle.pg_position.specs.declared.moves.Move.{Move}
-use Rattle.pg_position.specs.Position.{Stands, IsPassed, IsPosition}
-use Rattle.pg_board.specs.declared.man.Color.{Color}
-use Rattle.pg_board.specs.declared.man.Color.TheVariants.{White, Black}
-use Rattle.pg_board.specs.declared.man.Kind.{Kind}
-use Rattle.pg_board.specs.declared.man.Kind.TheVariants.{Pawn, Knight, Bishop, Rook, Queen, King}
-use Rattle.pg_position.specs.declared.moves.StepKind.{StepKind}
-use Rattle.pg_position.specs.declared.moves.StepKind.TheVariants.{Plain, Capture, DoubleAdvance, EnPassant, Promotion, Castling}
-use Rattle.pg_board.specs.Squares.{rank}
-use Rattle.pg_board.specs.declared.man.Man.{Man}
-use Rattle.pg_board.specs.Bits.{has}
-use Rattle.pg_board.specs.Men.{man, is_of}
-use Rattle.pg_board.specs.Placement.{Placement, get}
-use Rattle.pg_position.specs.Step.{IsLegal, IsOnBoard, IsWay, IsPiece, MustPromote, Step}
-use Rattle.pg_position.specs.Squares.{ahead, passed_rank, home_rank, last_rank}
-use Rattle.pg_position.proofs.StepLemmas.{same_kind}
-use Rattle.pg_board.specs.SquareSets.{HasNoneFrom, IsFirstFrom}
+use Rattle.pg_moves.proofs.Common.{◌≡◌, ◌≢◌, ℕ, suc, ◌+◌, ◌<◌, ◌≤◌, ◌⊎◌, inl, inr, Option, Some, None, MatchOption, Bool, true, false, IsTrue, refl, sym, ap, subst, arith, ◌∙◌, Less, Equal, tied_itself, eqb_tells, leb_tells, State, Move, Stands, IsPassed, IsPosition, Color, White, Black, Kind, Pawn, Knight, Bishop, Rook, Queen, King, StepKind, Plain, Capture, DoubleAdvance, EnPassant, Promotion, Castling, rank, Man, has, man, is_of, Placement, get, IsLegal, IsOnBoard, IsWay, IsPiece, MustPromote, Step, ahead, passed_rank, home_rank, last_rank, same_kind, HasNoneFrom, IsFirstFrom, promotion_number, move_cmp, IsPast, IsNext, IsLast, place_of, start_after, place, NoneFrom, IsFirstMove, IsOwn, Covers}
 use Rattle.pg_moves.proofs.TargetLemmas.{own_set}
-use Rattle.pg_moves.specs.Moves.{promotion_number, move_cmp, IsPast, IsNext, IsLast}
-use Rattle.pg_moves.specs.inner.Places.{place_of, start_after, place, NoneFrom, IsFirstMove}
-use Rattle.pg_moves.specs.Targets.{IsOwn, Covers}
 use Rattle.pg_moves.proofs.PlaceLemmas.{move_cmp_total, promotion_low, place_less, same_place, place_low}
 use Rattle.pg_moves.proofs.ListLemmas.{on_board}
 

@@ -1,23 +1,5 @@
 -- A man without which the king would not be attacked either: its moves leave the king unattacked.
-use Rattle.std.proofs.Common.{◌≡◌, ◌≢◌, ℕ, ◌<◌, inl, inr, Some, None, refl, sym, subst, ◌∙◌}
-use Rattle.std.proofs.lemmas.Bool.Decides.{eqb_tells}
-use Rattle.pg_board.specs.declared.man.Color.{Color}
-use Rattle.pg_board.specs.declared.man.Kind.{Kind}
-use Rattle.pg_board.specs.declared.man.Kind.TheVariants.{King}
-use Rattle.pg_board.specs.declared.man.Man.{Man}
-use Rattle.pg_board.specs.Men.{man, other}
-use Rattle.pg_board.specs.Placement.{Placement, get, without}
-use Rattle.pg_board.specs.lemmas.Placements.{get-write_same, get-write_other}
-use Rattle.pg_position.specs.declared.state.State.{State}
-use Rattle.pg_position.specs.declared.moves.StepKind.{StepKind}
-use Rattle.pg_position.specs.declared.moves.StepKind.TheVariants.{Plain, Capture, DoubleAdvance}
-use Rattle.pg_position.specs.Geometry.{IsBetween}
-use Rattle.pg_position.specs.Attack.{IsClear, AttacksFrom, Attacks}
-use Rattle.pg_position.specs.Position.{Stands, IsOnlyKing, InCheck}
-use Rattle.pg_position.specs.Step.{IsLegal, IsEnemy, MustPromote, IsWay, relocated, after, Step}
-use Rattle.pg_position.proofs.StepLemmas.{same_kind, same_side, not_other}
-use Rattle.pg_moves.specs.Targets.{plain_move, Strides, Leaps, Advances}
-use Rattle.pg_moves.specs.inner.Parries.{IsParried}
+use Rattle.pg_moves.proofs.Common.{◌≡◌, ◌≢◌, ℕ, ◌<◌, inl, inr, Some, None, refl, sym, subst, ◌∙◌, eqb_tells, Color, Kind, King, Man, man, other, Placement, get, without, get-write_same, get-write_other, State, StepKind, Plain, Capture, DoubleAdvance, IsBetween, IsClear, AttacksFrom, Attacks, Stands, IsOnlyKing, InCheck, IsLegal, IsEnemy, MustPromote, IsWay, relocated, after, Step, same_kind, same_side, not_other, plain_move, Strides, Leaps, Advances, IsParried}
 
 -- the placement e is b after a man of the colour, no king, has gone from r to s
 record HasGone (b e : Placement) (c : Color) (k : Kind) (r s : ℕ) : Type 0 where

@@ -1,23 +1,8 @@
 -- Sets shifted along the board, and the squares that pawns go from.
-use Rattle.std.proofs.Common.{arith, ◌≡◌, ◌≢◌, ℕ, zero, suc, ◌+◌, ◌-◌, ◌*◌, ◌/◌, ◌%◌, ◌^◌, ◌<◌, ◌≤◌, Bool, true, not, ◌&&◌, eqb, pow-suc, None, Some, refl, sym, ap, ap₂, ◌∙◌, subst}
+use Rattle.pg_moves.proofs.Common.{arith, ◌≡◌, ◌≢◌, ℕ, zero, suc, ◌+◌, ◌-◌, ◌*◌, ◌/◌, ◌%◌, ◌^◌, ◌<◌, ◌≤◌, Bool, true, not, ◌&&◌, eqb, pow-suc, None, Some, refl, sym, ap, ap₂, ◌∙◌, subst, Color, White, Black, file, rank, is_held, is_of, other, Placement, get, has, one, total, count_below, total-none, total-suc, IsSetOf, IsVacant, IsEnemy, home_rank, and_true, set_like, set_of_both, set_of_rest, PawnMoves, forward, IsInside, AreInside, moves_from}
 use Rattle.std.specs.Int.{bit_at}
 use Rattle.std.proofs.lemmas.Nat.{shr-shr}
 use Rattle.std.proofs.lemmas.Nat.Bits.{bit_at_cat_low, bit_at_cat_high}
-use Rattle.pg_board.specs.declared.man.Color.{Color}
-use Rattle.pg_board.specs.declared.man.Color.TheVariants.{White, Black}
-use Rattle.pg_board.specs.Squares.{file, rank}
-use Rattle.pg_board.specs.Men.{is_held, is_of, other}
-use Rattle.pg_board.specs.Placement.{Placement, get}
-use Rattle.pg_board.specs.Bits.{has}
-use Rattle.pg_board.specs.Tally.{one, total, count_below}
-use Rattle.pg_board.specs.lemmas.Sums.{total-none, total-suc}
-use Rattle.pg_board.specs.SquareSets.{IsSetOf}
-use Rattle.pg_position.specs.Position.{IsVacant}
-use Rattle.pg_position.specs.Step.{IsEnemy}
-use Rattle.pg_position.specs.Squares.{home_rank}
-use Rattle.pg_board.proofs.SetLemmas.{and_true, set_like, set_of_both, set_of_rest}
-use Rattle.pg_moves.specs.declared.pawns.PawnMoves.{PawnMoves}
-use Rattle.pg_moves.specs.inner.Pawns.{forward, IsInside, AreInside, moves_from}
 use Rattle.pg_moves.proofs.TargetLemmas.{enemy_set, held_set}
 
 -- ---- shifts

@@ -1,21 +1,5 @@
 -- Where one free pawn goes, by sets shifted along the board.
-use Rattle.std.proofs.Common.{◌≡◌, ◌≢◌, ℕ, ◌+◌, ◌-◌, ◌<◌, inl, inr, true, not, ◌&&◌, ◌||◌, None, Some, refl, sym, subst, arith, ◌∙◌}
-use Rattle.pg_board.specs.declared.man.Color.{Color}
-use Rattle.pg_board.specs.declared.man.Color.TheVariants.{White, Black}
-use Rattle.pg_board.specs.declared.man.Kind.TheVariants.{Pawn}
-use Rattle.pg_board.specs.Bits.{has}
-use Rattle.pg_board.specs.Men.{is_held, is_of, other}
-use Rattle.pg_board.specs.Placement.{Placement, get}
-use Rattle.pg_board.specs.Squares.{rank}
-use Rattle.pg_board.specs.SquareSets.{IsSetOf}
-use Rattle.pg_board.proofs.SetLemmas.{set_like, set_of_both, set_of_rest, set_of_union}
-use Rattle.pg_position.specs.Attack.{Reaches}
-use Rattle.pg_position.specs.Position.{IsVacant}
-use Rattle.pg_position.specs.Squares.{HasAhead, ahead}
-use Rattle.pg_position.specs.Step.{Goes}
-use Rattle.pg_moves.specs.inner.Pawns.{forward, IsInside}
-use Rattle.pg_moves.specs.inner.Steps.{leap_rank, StepsTo}
-use Rattle.pg_moves.specs.Targets.{Strides, Leaps, Advances}
+use Rattle.pg_moves.proofs.Common.{◌≡◌, ◌≢◌, ℕ, ◌+◌, ◌-◌, ◌<◌, inl, inr, true, not, ◌&&◌, ◌||◌, None, Some, refl, sym, subst, arith, ◌∙◌, Color, White, Black, Pawn, has, is_held, is_of, other, Placement, get, rank, IsSetOf, set_like, set_of_both, set_of_rest, set_of_union, Reaches, IsVacant, HasAhead, ahead, Goes, forward, IsInside, leap_rank, StepsTo, Strides, Leaps, Advances}
 use Rattle.pg_moves.proofs.ShiftLemmas.{itself}
 use Rattle.pg_moves.proofs.TargetLemmas.{enemy_set, held_set, front_set, advance_pawn}
 

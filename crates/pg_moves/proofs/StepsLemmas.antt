@@ -1,27 +1,5 @@
 -- The king's moves as a set.
-use Rattle.std.proofs.Common.{◌≡◌, ◌↔◌, ℕ, ◌<◌, ◌⊎◌, inl, inr, IsTrue, Bool, not, ◌&&◌, ◌||◌, cond, nat_eq, true, false, None, refl, sym, ap, subst, ◌∙◌, arith}
-use Rattle.std.proofs.lemmas.Bool.Decides.{eqb_tells}
-use Rattle.pg_board.specs.declared.man.Color.{Color}
-use Rattle.pg_board.specs.declared.man.Kind.{Kind}
-use Rattle.pg_board.specs.declared.man.Kind.TheVariants.{Pawn, Rook, King}
-use Rattle.pg_board.specs.Bits.{has}
-use Rattle.pg_board.specs.Men.{man, other}
-use Rattle.pg_board.specs.Placement.{Placement, without}
-use Rattle.pg_board.specs.lemmas.Placements.{get_on}
-use Rattle.pg_position.specs.declared.rights.Wing.{Wing}
-use Rattle.pg_position.specs.declared.state.State.{State}
-use Rattle.pg_position.specs.declared.moves.Move.{Move}
-use Rattle.pg_position.specs.declared.moves.StepKind.{StepKind}
-use Rattle.pg_position.specs.declared.moves.StepKind.TheVariants.{Plain, Capture, DoubleAdvance, EnPassant, Promotion, Castling}
-use Rattle.pg_position.specs.Attack.{Reaches, Attacks}
-use Rattle.pg_board.specs.SquareSets.{IsSetOf, IsFirstFrom, HasNoneFrom}
-use Rattle.pg_position.specs.Position.{Stands, IsPosition, IsHome, HasOneKing, IsOnlyKing, RightsClause}
-use Rattle.pg_position.specs.Squares.{king_home, rook_home}
-use Rattle.pg_position.specs.Step.{IsLegal, Goes, IsWay, IsCastling, Step}
-use Rattle.pg_position.proofs.StepLemmas.{same_kind}
-use Rattle.pg_board.proofs.SetLemmas.{set_of_union, set_of_rest}
-use Rattle.pg_moves.specs.inner.Sources.{IsExact}
-use Rattle.pg_moves.specs.Targets.{plain_move, Strides, Advances}
+use Rattle.pg_moves.proofs.Common.{◌≡◌, ◌↔◌, ℕ, ◌<◌, ◌⊎◌, inl, inr, IsTrue, Bool, not, ◌&&◌, ◌||◌, cond, nat_eq, true, false, None, refl, sym, ap, subst, ◌∙◌, arith, eqb_tells, Color, Kind, Pawn, Rook, King, has, man, other, Placement, without, get_on, Wing, State, Move, StepKind, Plain, Capture, DoubleAdvance, EnPassant, Promotion, Castling, Reaches, Attacks, IsSetOf, IsFirstFrom, HasNoneFrom, Stands, IsPosition, IsHome, HasOneKing, IsOnlyKing, RightsClause, king_home, rook_home, IsLegal, Goes, IsWay, IsCastling, Step, same_kind, set_of_union, set_of_rest, IsExact, plain_move, Strides, Advances}
 use Rattle.pg_moves.proofs.TargetLemmas.{not_own}
 use Rattle.pg_moves.proofs.SearchLemmas.{promotes}
 use Rattle.pg_moves.proofs.ListLemmas.{on_board}

@@ -1,31 +1,5 @@
 -- The sets of squares to which men may go.
-use Rattle.std.proofs.Common.{◌≡◌, ◌≢◌, ℕ, ◌<◌, ◌⊎◌, inl, inr, ◌↔◌, ◌&&◌, ◌||◌, not, Option, Some, None, refl, sym, ap, ◌∙◌, subst, arith}
-use Rattle.std.specs.Bool.{Decides}
-use Rattle.std.proofs.lemmas.Bool.Decides.{Decides-at}
-use Rattle.pg_board.specs.declared.man.Color.{Color}
-use Rattle.pg_board.specs.declared.man.Color.TheVariants.{White, Black}
-use Rattle.pg_board.specs.declared.man.Kind.{Kind}
-use Rattle.pg_board.specs.declared.man.Kind.TheVariants.{Pawn, Knight, Bishop, Rook, Queen, King}
-use Rattle.pg_board.specs.declared.man.Man.{Man}
-use Rattle.pg_board.specs.Squares.{file, rank}
-use Rattle.pg_board.specs.Men.{man, other, is_of, is_held}
-use Rattle.pg_board.specs.lemmas.Equalities.{of_decides}
-use Rattle.pg_board.specs.Placement.{Placement, get}
-use Rattle.pg_board.specs.Bits.{has}
-use Rattle.pg_position.specs.declared.state.State.{State}
-use Rattle.pg_position.specs.declared.moves.Move.{Move}
-use Rattle.pg_position.specs.declared.moves.StepKind.{StepKind}
-use Rattle.pg_position.specs.declared.moves.StepKind.TheVariants.{Plain, Capture, DoubleAdvance, EnPassant, Promotion, Castling}
-use Rattle.pg_position.specs.Geometry.{IsForward, InPattern}
-use Rattle.pg_position.specs.Attack.{IsClear, Reaches}
-use Rattle.pg_board.specs.SquareSets.{IsSetOf}
-use Rattle.pg_position.specs.Position.{Stands, IsVacant}
-use Rattle.pg_position.specs.Step.{IsLegal, IsEnemy, Goes, IsWay, Step}
-use Rattle.pg_position.specs.Squares.{ahead, HasAhead, home_rank}
-use Rattle.pg_position.proofs.StepLemmas.{same_kind, same_side, not_other}
-use Rattle.pg_position.proofs.LineLemmas.{pawn_near}
-use Rattle.pg_board.proofs.SetLemmas.{set_like, set_of_union, set_of_both, set_of_rest, set_none}
-use Rattle.pg_moves.specs.Targets.{IsOwn, Strides, Leaps, Advances, CapturesEnPassant}
+use Rattle.pg_moves.proofs.Common.{◌≡◌, ◌≢◌, ℕ, ◌<◌, ◌⊎◌, inl, inr, ◌↔◌, ◌&&◌, ◌||◌, not, Option, Some, None, refl, sym, ap, ◌∙◌, subst, arith, Decides, Decides-at, Color, White, Black, Kind, Pawn, Knight, Bishop, Rook, Queen, King, Man, file, rank, man, other, is_of, is_held, of_decides, Placement, get, has, State, Move, StepKind, Plain, Capture, DoubleAdvance, EnPassant, Promotion, Castling, IsForward, InPattern, IsClear, Reaches, IsSetOf, Stands, IsVacant, IsLegal, IsEnemy, Goes, IsWay, Step, ahead, HasAhead, home_rank, same_kind, same_side, not_other, pawn_near, set_like, set_of_union, set_of_both, set_of_rest, set_none, IsOwn, Strides, Leaps, Advances, CapturesEnPassant}
 
 -- ---- what stands on a square
 held_decides : (o : Option Man) → Decides (is_held o) (o ≢ None)

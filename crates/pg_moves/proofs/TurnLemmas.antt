@@ -1,25 +1,5 @@
 -- The men that are still to come, one after the other, and the first of them who has a legal move.
-use Rattle.std.proofs.Common.{◌≡◌, ◌≢◌, ℕ, ◌+◌, ◌<◌, ◌≤◌, ◌∙◌, inl, inr, Bool, true, false, Option, Some, None, MatchOption, IfSome, IfNone, refl, sym, ap, subst, arith}
-use Rattle.std.proofs.lemmas.Bool.Decides.{eqb_tells, leb_tells}
-use Rattle.pg_board.specs.Bits.{has}
-use Rattle.pg_board.specs.Men.{is_of}
-use Rattle.pg_board.specs.Placement.{get}
-use Rattle.pg_board.specs.SquareSets.{IsSetOf, HasNoneFrom, IsFirstFrom}
-use Rattle.pg_position.specs.declared.state.State.{State}
-use Rattle.pg_position.specs.declared.moves.Move.{Move}
-use Rattle.pg_position.specs.Position.{Stands}
-use Rattle.pg_position.specs.Step.{IsOnBoard}
-use Rattle.pg_board.specs.declared.man.Kind.{Kind}
-use Rattle.pg_moves.specs.Left.{MovesLeft, IsTurn, IsFirstOfMan, IsFirstOfAll, IsHandedOut, IsManDone, IsNextOfMan, IsPeeked, IsReady, men_from}
-use Rattle.pg_moves.specs.Moves.{promotion_number, IsNext, IsLast}
-use Rattle.pg_moves.specs.Targets.{IsOwn, plain_move, FreeOff}
-use Rattle.pg_position.proofs.StepLemmas.{some_none}
-use Rattle.pg_moves.specs.declared.men.Men.{Men}
-use Rattle.pg_moves.specs.declared.sources.Source.{Source}
-use Rattle.pg_moves.specs.declared.turns.Turn.{Turn}
-use Rattle.pg_moves.specs.inner.Men.{AreMen, AreKept, AreToCome}
-use Rattle.pg_moves.specs.inner.Places.{place, place_of, NoneFrom, IsFirstMove}
-use Rattle.pg_moves.specs.inner.Sources.{IsExact, IsSource, IsToldSource}
+use Rattle.pg_moves.proofs.Common.{◌≡◌, ◌≢◌, ℕ, ◌+◌, ◌<◌, ◌≤◌, ◌∙◌, inl, inr, Bool, true, false, Option, Some, None, MatchOption, IfSome, IfNone, refl, sym, ap, subst, arith, eqb_tells, leb_tells, has, is_of, get, IsSetOf, HasNoneFrom, IsFirstFrom, State, Move, Stands, IsOnBoard, Kind, MovesLeft, IsTurn, IsFirstOfMan, IsFirstOfAll, IsHandedOut, IsManDone, IsNextOfMan, IsPeeked, IsReady, men_from, promotion_number, IsNext, IsLast, IsOwn, plain_move, FreeOff, some_none, Men, Source, Turn, AreMen, AreKept, AreToCome, place, place_of, NoneFrom, IsFirstMove, IsExact, IsSource, IsToldSource}
 use Rattle.pg_moves.proofs.LeafLemmas.{exact_found, exact_last}
 use Rattle.pg_moves.proofs.LeftLemmas.{found_there, source_there, untold, beyond_is, beyond_none}
 use Rattle.pg_moves.proofs.ListLemmas.{on_board}

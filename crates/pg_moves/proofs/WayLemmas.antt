@@ -1,23 +1,5 @@
 -- The squares between two that a man along a line from each reaches, and moves that parry each attack.
-use Rattle.std.proofs.Common.{◌≡◌, ◌≢◌, ℕ, ◌+◌, ◌<◌, ◌⊎◌, inl, inr, true, false, ◌&&◌, ◌||◌, Some, None, refl, sym, ap, subst, ◌∙◌, arith}
-use Rattle.std.proofs.lemmas.Bool.{cases_lt}
-use Rattle.std.proofs.lemmas.Bool.Decides.{Decides-at}
-use Rattle.pg_board.specs.declared.man.Color.{Color}
-use Rattle.pg_board.specs.declared.man.Color.TheVariants.{White, Black}
-use Rattle.pg_board.specs.declared.man.Kind.{Kind}
-use Rattle.pg_board.specs.declared.man.Kind.TheVariants.{Pawn, Knight, Bishop, Rook, Queen, King}
-use Rattle.pg_board.specs.Squares.{file, rank}
-use Rattle.pg_board.specs.Bits.{has}
-use Rattle.pg_board.specs.Men.{man, other, is_man}
-use Rattle.pg_board.specs.lemmas.Equalities.{is_man_decides}
-use Rattle.pg_board.specs.Placement.{Placement, get}
-use Rattle.pg_board.specs.SquareSets.{IsSetOf, IsFirstFrom, HasNoneFrom}
-use Rattle.pg_board.proofs.SetLemmas.{and_true, set_of_union, set_of_both}
-use Rattle.pg_position.specs.Geometry.{apart, OnOneLine, OnOneDiagonal, InPattern, IsWithin, IsBetween}
-use Rattle.pg_position.specs.Attack.{IsClear, Reaches, AttacksFrom}
-use Rattle.pg_position.proofs.LineLemmas.{pawn_near, knight_near, king_near}
-use Rattle.pg_position.proofs.ReachLemmas.{between_turn}
-use Rattle.pg_moves.specs.inner.Parries.{StaysAttacked, IsLineKind, IsStepKind, IsLineAttacker, IsStepAttacker, AreParries}
+use Rattle.pg_moves.proofs.Common.{◌≡◌, ◌≢◌, ℕ, ◌+◌, ◌<◌, ◌⊎◌, inl, inr, true, false, ◌&&◌, ◌||◌, Some, None, refl, sym, ap, subst, ◌∙◌, arith, cases_lt, Decides-at, Color, White, Black, Kind, Pawn, Knight, Bishop, Rook, Queen, King, file, rank, has, man, other, is_man, is_man_decides, Placement, get, IsSetOf, IsFirstFrom, HasNoneFrom, and_true, set_of_union, set_of_both, apart, OnOneLine, OnOneDiagonal, InPattern, IsWithin, IsBetween, IsClear, Reaches, AttacksFrom, pawn_near, knight_near, king_near, between_turn, StaysAttacked, IsLineKind, IsStepKind, IsLineAttacker, IsStepAttacker, AreParries}
 use Rattle.pg_moves.proofs.LineLemmas.{rook_within, bishop_within, between_more, same_square}
 use Rattle.pg_moves.proofs.ParryLemmas.{off_both}
 

@@ -1,20 +1,13 @@
 -- The texts of the games make the list, and the parts make the head. Leads to the contract of `page`.
-use Rattle.std.proofs.Common.{◌≡◌, ◌≢◌, ◌∙◌, ◌↔◌, ℕ, suc, ◌+◌, ◌-◌, ◌<◌, ◌≤◌, List, [], ◌∷◌, ◌++◌, Option, length, get_or, drop, refl, sym, ap, subst, arith, append_assoc, append-nil, length-append, add-one}
+use Rattle.pg_page.proofs.Common.{◌≡◌, ◌≢◌, ◌∙◌, ◌↔◌, ℕ, ◌+◌, ◌-◌, ◌<◌, ◌≤◌, List, [], ◌∷◌, ◌++◌, Option, length, get_or, drop, refl, sym, ap, subst, arith, append_assoc, append-nil, length-append, add-one, nat_tests, codes, decimal, Appends, Placement, get, AddsSome, Grows, letter_of_kind, board_start, board_text, class_of, counts_text, man_text, men_text, square_text, escaped, AreGameItems, AreMoveTexts, IsGameItem, IsGameList, IsHead, answer_text, asked, caption_text, checked_text, end_words, front_text, headed_text, list_end, list_start, named_text, verdict_words, IsMoveText, AddsHead, front_at}
 use Rattle.std.proofs.KnownBytes.{Appends-nil, Appends-trans}
-use Rattle.std.proofs.Math.Seq.{drop-cons}
 use Rattle.std.proofs.lemmas.List.{drop_all, nil_from_length}
-use Rattle.std.proofs.lemmas.Bool.Decides.{nat_tests}
-use Rattle.std.specs.Prelude.{codes, decimal}
-use Rattle.std.specs.Io.KnownBytes.{Appends}
-use Rattle.pg_board.specs.Placement.{Placement, get}
 use Rattle.pg_board.specs.Squares.{file, rank}
 use Rattle.pg_board.specs.declared.man.Man.{Man}
 use Rattle.pg_board.specs.declared.man.Color.TheVariants.{White, Black}
 use Rattle.pg_captures.specs.Counting.{men, any_man}
-use Rattle.pg_certificate.specs.Pushing.{AddsSome, Grows}
 use Rattle.pg_checker.specs.declared.certify.Answer.{Answer}
 use Rattle.pg_fen.specs.Lengths.{length_text}
-use Rattle.pg_fen.specs.Letters.{letter_of_kind}
 use Rattle.pg_fen.specs.PlacementText.{placement_text}
 use Rattle.pg_position.specs.declared.state.State.{State}
 use Rattle.pg_position.specs.declared.moves.Move.{Move}
@@ -23,14 +16,7 @@ use Rattle.pg_position.specs.Game.{IsGame}
 use Rattle.pg_position.specs.Step.{Legal}
 use Rattle.pg_san.specs.Games.{IsFromArray}
 use Rattle.pg_texts.specs.Movetext.{AddsLongest, IsMovetext}
-use Rattle.pg_page.specs.Board.{board_start, board_text, class_of, counts_text, man_text, men_text, square_text}
-use Rattle.pg_page.specs.Escaping.{escaped}
-use Rattle.pg_page.specs.Heading.{AreGameItems, AreMoveTexts, IsGameItem, IsGameList, IsHead}
-use Rattle.pg_page.specs.Heading.{answer_text, asked, caption_text, checked_text, end_words, front_text, headed_text}
-use Rattle.pg_page.specs.Heading.{list_end, list_start, named_text, verdict_words}
 use Rattle.pg_page.specs.declared.heading.TheConstants.{CHECKED}
-use Rattle.pg_page.specs.Lines.{IsMoveText}
-use Rattle.pg_page.specs.Page.{AddsHead}
 
 -- ---- the men of a board
 pub no_men : (b : Placement) (held : Option (List ℕ)) → Appends held held (men_text b 0)
@@ -164,14 +150,9 @@ no_moves ms p held e (r, game) = record {
   game = subst (λ (x : State). IsGame x ms r) (sym e) game;
 }
 
-next_at : (ms : List Move) (n : ℕ) (m : Move) → n < length ms → m ≡ get_or ms n m → drop n ms ≡ m ∷ drop (n + 1) ms
-next_at ms n m low at =
-    let k : n + 1 ≡ suc n = omega arith in
-    rw k (drop-cons ms n m low ∙ ap (λ (x : Move). x ∷ drop (suc n) ms) (sym at))
-
 -- the next move is legal
 pub is_next : (ms : List Move) (n : ℕ) (m : Move) (p : State) (a b : Option (List ℕ)) → n < length ms → m ≡ get_or ms n m → (h : AreMovesTo ms n p a b) → (q : State) × Legal p m q × IsGame q (drop (n + 1) ms) h.last
-is_next ms n m p a b low at h = subst (λ (x : List Move). IsGame p x h.last) (next_at ms n m low at) h.game
+is_next ms n m p a b low at h = subst (λ (x : List Move). IsGame p x h.last) (front_at ms n m low at) h.game
 
 around : (text first more : List ℕ) → text ++ (first ++ 32 ∷ more) ≡ (text ++ (first ++ 32 ∷ [])) ++ more
 around text first more = ap (λ (l : List ℕ). text ++ l) (sym (append_assoc first (32 ∷ []) more)) ∙ sym (append_assoc text (first ++ 32 ∷ []) more)
@@ -183,7 +164,7 @@ first_told p q m ms first more legal is h = (q, first, more, legal, is, h, refl)
 pub one_move_more : (ms : List Move) (n : ℕ) (m : Move) (p q : State) (first : List ℕ) (a b c e : Option (List ℕ)) → n < length ms → m ≡ get_or ms n m → AreMovesTo ms n p a b → ((r : State) → (q ≡ r) ↔ Legal p m r) → IsMoveText p m first → Appends b c first → Appends c e (32 ∷ []) → AreMovesTo ms (n + 1) q a e
 one_move_more ms n m p q first a b c e low at h legal is word space =
     let (r, step, game) = is_next ms n m p a b low at h in
-    let here = next_at ms n m low at in
+    let here = front_at ms n m low at in
     record {
       text = h.text ++ (first ++ 32 ∷ []);
       is =

@@ -1,8 +1,6 @@
 -- The letters of the squares are those of the table, and ASCII. Leads to the contract of `letter_of`.
-use Rattle.std.proofs.Common.{◌≡◌, ℕ, zero, suc, ◌<◌, ◌&&◌, Bool, true, get_or, eqb, ltb, refl, sym, ap, subst, ◌∙◌}
-use Rattle.std.proofs.lemmas.Bool.Decides.{Decides-below_and, Decides-eqb, Decides-ltb}
+use Rattle.pg_page.proofs.Common.{◌≡◌, ℕ, zero, suc, ◌<◌, ◌&&◌, Bool, true, get_or, eqb, ltb, refl, sym, ap, subst, ◌∙◌, Decides-below_and, Decides-eqb, Decides-ltb, letter_at}
 use Rattle.pg_page.specs.declared.lines.TheConstants.{LETTERS}
-use Rattle.pg_page.specs.Lines.{letter_at}
 
 unfoldable all_below : (ℕ → Bool) → ℕ → Bool
 all_below p zero = true

@@ -1,3 +1,4 @@
+mod Common
 mod HeadLemmas
 mod LetterLemmas
 mod PageLemmas

@@ -1,10 +1,7 @@
 -- What is refused below, handed on. Leads to the contract of `page`.
-use Rattle.std.proofs.Common.{ℕ}
-use Rattle.pg_board.specs.Placement.{Placement}
-use Rattle.pg_checker.specs.Terms.{Terms}
+use Rattle.pg_page.proofs.Common.{ℕ, Placement, Terms, Failures, HasAnswer, IsPageFault, IsShowingFault}
 use Rattle.pg_page.specs.declared.fault.PageFault.{PageFault}
 use Rattle.pg_page.specs.declared.fault.PageFault.TheVariants.{Answer, Memory, Write}
-use Rattle.pg_page.specs.Page.{Failures, HasAnswer, IsPageFault, IsShowingFault}
 
 -- the page of a right certificate is not written to its end
 pub unshown : (t any : Terms) (d : Placement) (n : ℕ) (failed : Failures) (e : PageFault) → HasAnswer t d n → IsShowingFault failed.sink e → IsPageFault t any d n failed e

@@ -1,18 +1,7 @@
 -- The tables of files, and the pawns on one side of a line. Leads to the counts of pawns.
-use Rattle.std.proofs.Common.{◌≡◌, ℕ, ◌+◌, ◌<◌, ◌&&◌, not, get_or, refl, ap, ◌∙◌, nat_le}
-use Rattle.pg_board.specs.declared.man.Color.{Color}
-use Rattle.pg_board.specs.declared.man.Kind.TheVariants.{Pawn}
-use Rattle.pg_board.specs.declared.man.Man.{Man}
-use Rattle.pg_board.specs.Squares.{file}
-use Rattle.pg_board.specs.Men.{man, is_man}
-use Rattle.pg_board.specs.Tally.{count_below}
+use Rattle.pg_pawns.proofs.Common.{◌≡◌, ℕ, ◌+◌, ◌<◌, ◌&&◌, not, get_or, refl, ap, ◌∙◌, nat_le, Color, Pawn, Man, file, man, is_man, count_below, has, bits_below, has-bits_below, Placement, get, of_color, men, pawn_like, pawn_left, pawn_right}
 use Rattle.pg_board.specs.lemmas.Sums.{below_seven, total-none, total-more}
-use Rattle.pg_board.specs.Bits.{has, bits_below, has-bits_below}
-use Rattle.pg_board.specs.Placement.{Placement, get}
-use Rattle.pg_captures.specs.Counting.{of_color, men}
-use Rattle.pg_captures.specs.lemmas.PlaceLemmas.{pawn_like}
 use Rattle.pg_captures.proofs.TallyLemmas.{tally_set, masked_set}
-use Rattle.pg_pawns.specs.PawnFiles.{pawn_left, pawn_right}
 use Rattle.pg_pawns.specs.declared.files.TheConstants.{LEFT_FILES, RIGHT_FILES}
 
 left_is : (n : ℕ) → n < 7 → get_or LEFT_FILES n 0 ≡ bits_below (λ q. nat_le (file q) (n + 1)) 64

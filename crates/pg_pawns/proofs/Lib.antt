@@ -1,3 +1,4 @@
+mod Common
 pub mod OwedLemmas
 pub mod FileLemmas
 pub mod PriceLemmas

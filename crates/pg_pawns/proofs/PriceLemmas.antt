@@ -1,24 +1,9 @@
 -- The test of a price list of pawn files. Leads to the contract of `prices_exclude`.
-use Rattle.std.proofs.Common.{◌≡◌, ◌↔◌, ℕ, ◌+◌, ◌-◌, ◌<◌, ◌≤◌, Bool, true, false, IsTrue, List, refl, sym, ap, subst, arith, ◌∙◌}
-use Rattle.std.specs.Prelude.{sum}
-use Rattle.pg_board.specs.declared.man.Color.{Color}
+use Rattle.pg_pawns.proofs.Common.{◌≡◌, ◌↔◌, ℕ, ◌+◌, ◌-◌, ◌<◌, ◌≤◌, Bool, true, false, IsTrue, List, refl, sym, ap, subst, arith, ◌∙◌, sum, Color, Pawn, Man, has, man, is_man, file, rank, Placement, get, apart, Stands, any_pawn, victims, owed_below_less, PriceList, price, IsFor, IsAhead, PairFits, SourceFits, AllFit}
 use Rattle.pg_board.specs.declared.man.Color.TheVariants.{White, Black}
-use Rattle.pg_board.specs.declared.man.Kind.TheVariants.{Pawn}
-use Rattle.pg_board.specs.declared.man.Man.{Man}
-use Rattle.pg_board.specs.Bits.{has}
-use Rattle.pg_board.specs.Men.{man, is_man}
 use Rattle.pg_board.specs.lemmas.Equalities.{is_man_decides}
-use Rattle.pg_board.specs.Squares.{file, rank}
-use Rattle.pg_board.specs.Placement.{Placement, get}
 use Rattle.pg_position.specs.declared.state.State.{State}
-use Rattle.pg_position.specs.Geometry.{apart}
-use Rattle.pg_position.specs.Position.{Stands}
-use Rattle.pg_captures.specs.Counting.{any_pawn}
-use Rattle.pg_captures.specs.Owed.{victims}
-use Rattle.pg_captures.specs.lemmas.OwedLemmas.{owed_below_less}
-use Rattle.pg_captures.specs.PriceLists.{PriceList, price, IsFor}
 use Rattle.pg_pawns.specs.PawnPrices.{IsShift, PawnPricesFit, PawnPricesExclude}
-use Rattle.pg_pawns.specs.inner.PriceTests.{IsAhead, PairFits, SourceFits, AllFit}
 
 -- ---- a pair
 pub pair_low : (c : Color) (s u t v : ℕ) → v ≤ u → IsTrue true ↔ PairFits c s u t v

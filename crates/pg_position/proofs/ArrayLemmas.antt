@@ -1,21 +1,5 @@
 -- The initial array is a position.
-use Rattle.std.proofs.Common.{◌≡◌, ◌≢◌, ℕ, zero, suc, ◌<◌, inl, inr, Option, Some, None, Bool, true, false, refl, sym, subst, arith, ◌∙◌, nat_eq, not, ◌&&◌, ◌||◌}
-use Rattle.std.proofs.lemmas.Bool.Decides.{eqb_tells}
-use Rattle.pg_board.specs.declared.man.Color.{Color}
-use Rattle.pg_board.specs.declared.man.Color.TheVariants.{White, Black}
-use Rattle.pg_board.specs.declared.man.Kind.{Kind}
-use Rattle.pg_board.specs.declared.man.Kind.TheVariants.{Pawn, Knight, Bishop, Rook, Queen, King}
-use Rattle.pg_position.specs.declared.rights.Wing.{Wing}
-use Rattle.pg_position.specs.declared.rights.Wing.TheVariants.{KingSide, QueenSide}
-use Rattle.pg_board.specs.declared.man.Man.{Man}
-use Rattle.pg_board.specs.Squares.{file, rank}
-use Rattle.pg_board.specs.Men.{man}
-use Rattle.pg_board.specs.Placement.{Placement, get, get-placement_of, same_placement}
-use Rattle.pg_position.specs.Geometry.{InPattern}
-use Rattle.pg_position.specs.Attack.{Attacks, AttacksFrom}
-use Rattle.pg_position.specs.Position.{Stands, IsOnlyKing, HasOneKing, InCheck, PawnsClause, IsHome, RightsClause, IsPosition}
-use Rattle.pg_position.specs.Squares.{king_home, rook_home}
-use Rattle.pg_position.specs.Array.{first_man, array_board, array_state}
+use Rattle.pg_position.proofs.Common.{◌≡◌, ◌≢◌, ℕ, zero, suc, ◌<◌, inl, inr, Option, Some, None, Bool, true, false, refl, sym, subst, arith, ◌∙◌, nat_eq, not, ◌&&◌, ◌||◌, eqb_tells, Color, White, Black, Kind, Pawn, Knight, Bishop, Rook, Queen, King, Wing, KingSide, QueenSide, Man, file, rank, man, Placement, get, get-placement_of, same_placement, InPattern, Attacks, AttacksFrom, Stands, IsOnlyKing, HasOneKing, InCheck, PawnsClause, IsHome, RightsClause, IsPosition, king_home, rook_home, first_man, array_board, array_state}
 use Rattle.pg_position.proofs.StepLemmas.{some_none}
 
 all_below : (ℕ → Bool) → ℕ → Bool

@@ -1,14 +1,7 @@
 -- The eight sets of the initial array.
-use Rattle.std.proofs.Common.{◌≡◌, ℕ, ◌<◌, ◌^◌, Bool, Option, refl, ap, ◌∙◌}
-use Rattle.pg_board.specs.declared.man.Color.TheVariants.{White, Black}
-use Rattle.pg_board.specs.declared.man.Kind.TheVariants.{Pawn, Knight, Bishop, Rook, Queen, King}
-use Rattle.pg_board.specs.declared.man.Man.{Man}
+use Rattle.pg_position.proofs.Common.{◌≡◌, ℕ, ◌<◌, ◌^◌, Bool, Option, refl, ap, ◌∙◌, White, Black, Pawn, Knight, Bishop, Rook, Queen, King, Man, has, bits_below, bits_below-lt, has-bits_below, is_kind, is_of, Placement, get, first_man, array_board}
 use Rattle.pg_board.specs.declared.sets.Sets.{Sets}
-use Rattle.pg_board.specs.Bits.{has, bits_below, bits_below-lt, has-bits_below}
-use Rattle.pg_board.specs.Men.{is_kind, is_of}
-use Rattle.pg_board.specs.Placement.{Placement, get}
 use Rattle.pg_board.specs.inner.Sets.{man_in, Shows, shown, shows_itself, IsSound}
-use Rattle.pg_position.specs.Array.{first_man, array_board}
 use Rattle.pg_position.proofs.ArrayLemmas.{array_from}
 
 abbrev pub array_sets : Sets

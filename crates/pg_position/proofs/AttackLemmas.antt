@@ -1,25 +1,5 @@
 -- Attack by sets of squares, man by man and ray by ray. Leads to the contract of `attacked`.
-use Rattle.std.proofs.Common.{◌≡◌, ◌≢◌, ℕ, ◌<◌, ◌⊎◌, ◌↔◌, inl, inr, IsTrue, MatchOption, ◌||◌, Bool, true, false, ◌&&◌, Option, Some, None, refl, sym, ap, ◌∙◌, subst, arith, not}
-use Rattle.std.specs.Bool.{Decides}
-use Rattle.std.proofs.lemmas.Bool.Decides.{Decides-at, Decides-or}
-use Rattle.pg_board.specs.declared.man.Color.{Color}
-use Rattle.pg_board.specs.declared.man.Color.TheVariants.{White, Black}
-use Rattle.pg_board.specs.declared.man.Kind.{Kind}
-use Rattle.pg_board.specs.declared.man.Kind.TheVariants.{Pawn, Knight, Bishop, Rook, Queen, King}
-use Rattle.pg_board.specs.declared.man.Man.{Man}
-use Rattle.pg_board.specs.Bits.{has}
-use Rattle.pg_board.specs.Men.{man, other, is_man, is_held}
-use Rattle.pg_board.specs.lemmas.Equalities.{is_man_decides}
-use Rattle.pg_board.specs.Placement.{Placement, get}
-use Rattle.pg_board.specs.lemmas.Placements.{get_on}
-use Rattle.pg_position.specs.declared.direction.Direction.{Direction}
-use Rattle.pg_position.specs.declared.direction.Direction.TheVariants.{North, NorthEast, East, SouthEast, South, SouthWest, West, NorthWest}
-use Rattle.pg_position.specs.Geometry.{InPattern, IsBetween}
-use Rattle.pg_position.specs.inner.Rays.{OnRay, OnFileOrRank, OnDiagonal, IsIn, ascends, is_straight, slides}
-use Rattle.pg_board.specs.SquareSets.{IsSetOf, Meet, HasNoneFrom, IsFirstFrom, IsLastIn}
-use Rattle.pg_position.specs.Attack.{IsClear, Attacks, AttacksFrom}
-use Rattle.pg_position.specs.inner.Lines.{AttackedBy, AttackedAlong, IsBlocked, IsFree, ByStep, Straight, Diagonal}
-use Rattle.pg_board.proofs.SetLemmas.{and_true, second}
+use Rattle.pg_position.proofs.Common.{◌≡◌, ◌≢◌, ℕ, ◌<◌, ◌⊎◌, ◌↔◌, inl, inr, IsTrue, MatchOption, ◌||◌, Bool, true, false, ◌&&◌, Option, Some, None, refl, sym, ap, ◌∙◌, subst, arith, not, Decides, Decides-at, Decides-or, Color, White, Black, Kind, Pawn, Knight, Bishop, Rook, Queen, King, Man, has, man, other, is_man, is_held, is_man_decides, Placement, get, get_on, Direction, North, NorthEast, East, SouthEast, South, SouthWest, West, NorthWest, InPattern, IsBetween, OnRay, OnFileOrRank, OnDiagonal, IsIn, ascends, is_straight, slides, IsSetOf, Meet, HasNoneFrom, IsFirstFrom, IsLastIn, IsClear, Attacks, AttacksFrom, AttackedBy, AttackedAlong, IsBlocked, IsFree, ByStep, Straight, Diagonal, and_true, second}
 use Rattle.pg_position.proofs.LineLemmas.{between_forth, between_back, slide_pattern, bishop_ray, rook_ray, queen_ray, pawn_near, knight_near, king_near}
 
 -- a man that attacks by one step, by the set of the squares that it attacks from

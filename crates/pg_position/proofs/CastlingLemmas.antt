@@ -1,30 +1,9 @@
 -- The squares between king and rook, and those to which the king castles. Leads to the contracts of `path`, `castling_targets`,
 -- `castling_homes` and `Rights::after`.
-use Rattle.std.proofs.Common.{Some, ◌+◌, ◌≡◌, ◌≢◌, ◌↔◌, ℕ, ◌<◌, ◌⊎◌, inl, inr, IsTrue, Bool, true, false, not, ◌&&◌, ◌||◌, nat_eq, ltb, None, refl, sym, ap, subst, ◌∙◌, arith}
+use Rattle.pg_position.proofs.Common.{Some, ◌+◌, ◌≡◌, ◌≢◌, ◌↔◌, ℕ, ◌<◌, ◌⊎◌, inl, inr, IsTrue, Bool, true, false, not, ◌&&◌, ◌||◌, nat_eq, ltb, None, refl, sym, ap, subst, ◌∙◌, arith, Decides, Decides-ltb, Decides-eqb, Decides-and, Decides-or, Decides-at, Decides-like, Color, White, Black, King, has, bits_below, has-bits_below, other, is_held, Placement, get, rank, Rights, Wing, KingSide, QueenSide, State, Move, IsClear, Attacks, IsBetween, holds, IsSetOf, Meet, IsCastling, touches, rights_after, king_home, rook_home, king_target, IsCastlingHome, set_of_union, set_like}
 use Rattle.std.proofs.lemmas.Bool.{ne_eqb}
-use Rattle.std.specs.Bool.{Decides}
-use Rattle.std.proofs.lemmas.Bool.Decides.{Decides-ltb, Decides-eqb, Decides-and, Decides-or, Decides-at, Decides-like}
-use Rattle.pg_board.specs.declared.man.Color.{Color}
-use Rattle.pg_board.specs.declared.man.Color.TheVariants.{White, Black}
-use Rattle.pg_board.specs.declared.man.Kind.TheVariants.{King}
-use Rattle.pg_board.specs.Bits.{has, bits_below, has-bits_below}
-use Rattle.pg_board.specs.Men.{other, is_held}
-use Rattle.pg_board.specs.Placement.{Placement, get}
-use Rattle.pg_board.specs.Squares.{rank}
-use Rattle.pg_position.specs.declared.rights.Rights.{Rights}
-use Rattle.pg_position.specs.declared.rights.Wing.{Wing}
-use Rattle.pg_position.specs.declared.rights.Wing.TheVariants.{KingSide, QueenSide}
-use Rattle.pg_position.specs.declared.state.State.{State}
-use Rattle.pg_position.specs.declared.moves.Move.{Move}
-use Rattle.pg_position.specs.Attack.{IsClear, Attacks}
-use Rattle.pg_position.specs.Geometry.{IsBetween}
-use Rattle.pg_position.specs.Position.{holds}
-use Rattle.pg_board.specs.SquareSets.{IsSetOf, Meet}
-use Rattle.pg_position.specs.Step.{IsCastling, touches, rights_after}
-use Rattle.pg_position.specs.Squares.{king_home, rook_home, king_target, IsCastlingHome}
 use Rattle.pg_position.specs.inner.Castling.{IsOpen, IsSafe, IsSafeTo}
 use Rattle.pg_position.proofs.AttackLemmas.{not_held}
-use Rattle.pg_board.proofs.SetLemmas.{set_of_union, set_like}
 
 -- ---- the squares between
 -- the least and the greatest of them

@@ -1,16 +1,6 @@
 -- Positions with the same future have the same legal moves, and so the same games.
-use Rattle.std.proofs.Common.{◌≡◌, ◌<◌, ℕ, Option, Some, None, List, [], ◌∷◌, refl, sym, ap, subst, ◌∙◌}
-use Rattle.pg_board.specs.declared.man.Kind.{Kind}
-use Rattle.pg_board.specs.declared.man.Kind.TheVariants.{Pawn}
-use Rattle.pg_position.specs.declared.state.State.{State}
-use Rattle.pg_position.specs.declared.moves.Move.{Move}
-use Rattle.pg_position.specs.declared.moves.StepKind.{StepKind}
-use Rattle.pg_position.specs.declared.moves.StepKind.TheVariants.{Plain, Capture, DoubleAdvance, EnPassant, Promotion, Castling}
-use Rattle.pg_position.specs.Position.{parts, Stands, IsPosition}
-use Rattle.pg_position.specs.Step.{IsWay, after, Step, Legal}
+use Rattle.pg_position.proofs.Common.{◌≡◌, ◌<◌, ℕ, Option, Some, None, List, [], ◌∷◌, refl, sym, ap, subst, ◌∙◌, Kind, Pawn, State, Move, StepKind, Plain, Capture, DoubleAdvance, EnPassant, Promotion, Castling, parts, Stands, IsPosition, IsWay, after, Step, Legal, IsClear, IsPawnAttacked, IsEffective, SameFuture}
 use Rattle.pg_position.specs.Game.{IsGame}
-use Rattle.pg_position.specs.Attack.{IsClear}
-use Rattle.pg_position.specs.Future.{IsPawnAttacked, IsEffective, SameFuture}
 use Rattle.pg_position.proofs.LineLemmas.{pawn_near}
 use Rattle.pg_position.proofs.StepLemmas.{one_step}
 use Rattle.pg_position.proofs.ValidLemmas.{step_valid}

@@ -1,26 +1,5 @@
 -- The case of a legal move, told apart by few tests.
-use Rattle.std.proofs.Common.{refl, Ok, Err, Result, IfOk, IfErr, is_ok, ◌≡◌, ◌≢◌, ℕ, ◌+◌, ◌⊎◌, ◌↔◌, inl, inr, Bool, true, false, IsTrue, Some, None, sym, ap, subst, arith, ◌∙◌, Option}
-use Rattle.pg_board.specs.declared.man.Color.{Color}
-use Rattle.pg_board.specs.declared.man.Color.TheVariants.{White, Black}
-use Rattle.pg_board.specs.declared.man.Kind.{Kind}
-use Rattle.pg_board.specs.declared.man.Kind.TheVariants.{Pawn, King}
-use Rattle.pg_board.specs.declared.man.Man.{Man}
-use Rattle.pg_board.specs.Squares.{file, rank}
-use Rattle.pg_board.specs.Men.{man, other}
-use Rattle.pg_board.specs.Placement.{get}
-use Rattle.pg_position.specs.declared.rights.Rights.{Rights}
-use Rattle.pg_position.specs.declared.rights.Wing.{Wing}
-use Rattle.pg_position.specs.declared.rights.Wing.TheVariants.{KingSide, QueenSide}
-use Rattle.pg_position.specs.declared.state.State.{State}
-use Rattle.pg_position.specs.declared.moves.Move.{Move}
-use Rattle.pg_position.specs.declared.moves.StepKind.{StepKind}
-use Rattle.pg_position.specs.declared.moves.StepKind.TheVariants.{Plain, Capture, DoubleAdvance, EnPassant, Promotion, Castling}
-use Rattle.pg_position.specs.declared.refusals.Illegal.{Illegal}
-use Rattle.pg_position.specs.declared.refusals.Illegal.TheVariants.{LeavesCheck}
-use Rattle.pg_position.specs.Geometry.{apart, IsForward, InPattern}
-use Rattle.pg_position.specs.Position.{parts, Stands, IsVacant, IsPassed, InCheck, holds, IsPosition}
-use Rattle.pg_position.specs.Step.{Goes, IsDoubleAdvance, IsCastling, IsWay, relocated, passed_after, rights_after, after, IsOnBoard, Step, Legal, IsLegal, IsCause}
-use Rattle.pg_position.specs.Squares.{king_home, ahead, HasAhead, home_rank, king_target}
+use Rattle.pg_position.proofs.Common.{refl, Ok, Err, Result, IfOk, IfErr, is_ok, ◌≡◌, ◌≢◌, ℕ, ◌+◌, ◌⊎◌, ◌↔◌, inl, inr, Bool, true, false, IsTrue, Some, None, sym, ap, subst, arith, ◌∙◌, Option, Color, White, Black, Kind, Pawn, King, Man, file, rank, man, other, get, Rights, Wing, KingSide, QueenSide, State, Move, StepKind, Plain, Capture, DoubleAdvance, EnPassant, Promotion, Castling, Illegal, LeavesCheck, apart, IsForward, InPattern, parts, Stands, IsVacant, IsPassed, InCheck, holds, IsPosition, Goes, IsDoubleAdvance, IsCastling, IsWay, relocated, passed_after, rights_after, after, IsOnBoard, Step, Legal, IsLegal, IsCause, king_home, ahead, HasAhead, home_rank, king_target}
 use Rattle.pg_position.proofs.StepLemmas.{not_both, same_kind, one_way, one_step, one_target, promoted_not, two_files, cause_refutes}
 use Rattle.pg_position.proofs.ValidLemmas.{step_valid}
 

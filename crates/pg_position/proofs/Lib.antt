@@ -1,3 +1,4 @@
+mod Common
 pub mod PatternTests
 pub mod TableLemmas
 pub mod LineLemmas

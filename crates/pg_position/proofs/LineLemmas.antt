@@ -1,14 +1,5 @@
 -- Rays against lines, diagonals and what is between two squares. Leads to AttackLemmas and ReachLemmas.
-use Rattle.std.proofs.Common.{◌≡◌, ◌≢◌, ℕ, Bool, true, false, not, ◌<◌, ◌≤◌, ◌⊎◌, inl, inr, arith, ltb, ltb-true, ltb-false, refl, ap}
-use Rattle.pg_board.specs.declared.man.Color.{Color}
-use Rattle.pg_board.specs.declared.man.Color.TheVariants.{White, Black}
-use Rattle.pg_board.specs.declared.man.Kind.{Kind}
-use Rattle.pg_board.specs.declared.man.Kind.TheVariants.{Pawn, Knight, Bishop, Rook, Queen, King}
-use Rattle.pg_board.specs.Squares.{file, rank}
-use Rattle.pg_position.specs.declared.direction.Direction.{Direction}
-use Rattle.pg_position.specs.declared.direction.Direction.TheVariants.{North, NorthEast, East, SouthEast, South, SouthWest, West, NorthWest}
-use Rattle.pg_position.specs.Geometry.{OnOneLine, OnOneDiagonal, InPattern, IsWithin, IsBetween}
-use Rattle.pg_position.specs.inner.Rays.{OnRay, Before, is_straight, slides}
+use Rattle.pg_position.proofs.Common.{◌≡◌, ◌≢◌, ℕ, Bool, true, false, not, ◌<◌, ◌≤◌, ◌⊎◌, inl, inr, arith, ltb, ltb-true, ltb-false, refl, ap, Color, White, Black, Kind, Pawn, Knight, Bishop, Rook, Queen, King, file, rank, Direction, North, NorthEast, East, SouthEast, South, SouthWest, West, NorthWest, OnOneLine, OnOneDiagonal, InPattern, IsWithin, IsBetween, OnRay, Before, is_straight, slides}
 
 -- lines and diagonals are rays
 pub straight_pattern : (d : Direction) (s r : ℕ) → is_straight d ≡ true → OnRay d s r → (r ≢ s) × OnOneLine r s

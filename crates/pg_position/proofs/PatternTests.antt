@@ -1,15 +1,5 @@
 -- The patterns of the men of one step, and the rays, as tests of two squares: what the tables are compared with. Leads to TableLemmas.
-use Rattle.std.proofs.Common.{ℕ, ◌+◌, Bool, ◌&&◌, ◌||◌, not, eqb, ltb, arith}
-use Rattle.std.specs.Bool.{Decides}
-use Rattle.std.proofs.lemmas.Bool.Decides.{Decides-eqb, Decides-ltb, Decides-and, Decides-or, Decides-not, Decides-like}
-use Rattle.pg_board.specs.declared.man.Color.{Color}
-use Rattle.pg_board.specs.declared.man.Color.TheVariants.{White, Black}
-use Rattle.pg_board.specs.declared.man.Kind.TheVariants.{Pawn, Knight, King}
-use Rattle.pg_board.specs.Squares.{file, rank}
-use Rattle.pg_position.specs.declared.direction.Direction.{Direction}
-use Rattle.pg_position.specs.declared.direction.Direction.TheVariants.{North, NorthEast, East, SouthEast, South, SouthWest, West, NorthWest}
-use Rattle.pg_position.specs.Geometry.{apart, InPattern}
-use Rattle.pg_position.specs.inner.Rays.{OnRay, OnFileOrRank, OnDiagonal}
+use Rattle.pg_position.proofs.Common.{ℕ, ◌+◌, Bool, ◌&&◌, ◌||◌, not, eqb, ltb, arith, Decides, Decides-eqb, Decides-ltb, Decides-and, Decides-or, Decides-not, Decides-like, Color, White, Black, Pawn, Knight, King, file, rank, Direction, North, NorthEast, East, SouthEast, South, SouthWest, West, NorthWest, apart, InPattern, OnRay, OnFileOrRank, OnDiagonal}
 
 unfoldable pub knight_test : ℕ → ℕ → Bool
 knight_test r s = (eqb (apart (file r) (file s)) 1 && eqb (apart (rank r) (rank s)) 2) || (eqb (apart (file r) (file s)) 2 && eqb (apart (rank r) (rank s)) 1)

@@ -1,20 +1,5 @@
 -- Where a man may capture, by sets of squares. Leads to the contracts of `attacks_from` and `is_clear`.
-use Rattle.std.proofs.Common.{◌≡◌, ℕ, ◌<◌, ◌⊎◌, ◌↔◌, IsTrue, inl, inr, Bool, true, false, not, ◌&&◌, None, refl, sym, ap, ◌∙◌, subst, arith}
-use Rattle.pg_board.specs.declared.man.Color.{Color}
-use Rattle.pg_board.specs.declared.man.Kind.{Kind}
-use Rattle.pg_board.specs.declared.man.Kind.TheVariants.{Pawn, Knight, Bishop, Rook, Queen, King}
-use Rattle.pg_board.specs.Bits.{has}
-use Rattle.pg_board.specs.Placement.{Placement, get, empty}
-use Rattle.pg_board.specs.lemmas.Placements.{get-empty}
-use Rattle.pg_position.specs.declared.direction.Direction.{Direction}
-use Rattle.pg_position.specs.declared.direction.Direction.TheVariants.{North, NorthEast, East, SouthEast, South, SouthWest, West, NorthWest}
-use Rattle.pg_position.specs.Geometry.{OnOneLine, InPattern, IsBetween}
-use Rattle.pg_position.specs.inner.Rays.{OnRay, IsIn, ascends, slides, is_straight}
-use Rattle.pg_board.specs.SquareSets.{IsSetOf}
-use Rattle.pg_board.specs.Men.{is_held}
-use Rattle.pg_board.proofs.SetLemmas.{set_like, set_of_both, second}
-use Rattle.pg_position.specs.Attack.{IsClear, Reaches}
-use Rattle.pg_position.specs.inner.Lines.{IsFree, ReachesAlong, ReachesStraight, ReachesDiagonal}
+use Rattle.pg_position.proofs.Common.{◌≡◌, ℕ, ◌<◌, ◌⊎◌, ◌↔◌, IsTrue, inl, inr, Bool, true, false, not, ◌&&◌, None, refl, sym, ap, ◌∙◌, subst, arith, Color, Kind, Pawn, Knight, Bishop, Rook, Queen, King, has, Placement, get, empty, get-empty, Direction, North, NorthEast, East, SouthEast, South, SouthWest, West, NorthWest, OnOneLine, InPattern, IsBetween, OnRay, IsIn, ascends, slides, is_straight, IsSetOf, is_held, set_like, set_of_both, second, IsClear, Reaches, IsFree, ReachesAlong, ReachesStraight, ReachesDiagonal}
 use Rattle.pg_position.proofs.LineLemmas.{between_forth, between_back, slide_pattern, bishop_ray, rook_ray, queen_ray, pawn_near, knight_near, king_near}
 use Rattle.pg_position.proofs.AttackLemmas.{held_none}
 

@@ -1,15 +1,6 @@
 -- Kings that are taken out of a set, the first each time, until one is attacked or none is left.
-use Rattle.std.proofs.Common.{◌≡◌, ◌≢◌, ℕ, ◌<◌, cond, eqb, eq-eqb, ne_eqb, true, false, ap, ◌∙◌, refl, arith}
-use Rattle.pg_board.specs.declared.man.Color.{Color}
-use Rattle.pg_board.specs.declared.man.Kind.TheVariants.{King}
-use Rattle.pg_board.specs.Men.{other}
-use Rattle.pg_board.specs.Placement.{Placement}
-use Rattle.pg_board.specs.Bits.{has}
-use Rattle.pg_board.specs.SquareSets.{IsFirstFrom, HasNoneFrom}
-use Rattle.pg_board.specs.Tally.{one, count_below}
+use Rattle.pg_position.proofs.Common.{◌≡◌, ◌≢◌, ℕ, ◌<◌, cond, eqb, eq-eqb, ne_eqb, true, false, ap, ◌∙◌, refl, arith, Color, King, other, Placement, has, IsFirstFrom, HasNoneFrom, one, count_below, Attacks, Stands, InCheck}
 use Rattle.pg_board.specs.lemmas.Sums.{total_changed}
-use Rattle.pg_position.specs.Attack.{Attacks}
-use Rattle.pg_position.specs.Position.{Stands, InCheck}
 
 pub record AreLeft (b : Placement) (c : Color) (kings : ℕ) : Type 0 where
   pub kings_all : (q : ℕ) → q < 64 → has kings q ≡ true → Stands b c King q

@@ -1,25 +1,5 @@
 -- Facts on steps: a passed square's rank, one case for each move.
-use Rattle.std.proofs.Common.{◌≡◌, ◌≢◌, ℕ, ◌≤◌, Option, Some, None, refl, sym, ap, arith, ◌∙◌}
-use Rattle.pg_board.specs.declared.man.Color.{Color}
-use Rattle.pg_board.specs.declared.man.Color.TheVariants.{White, Black}
-use Rattle.pg_board.specs.declared.man.Kind.{Kind}
-use Rattle.pg_board.specs.declared.man.Kind.TheVariants.{Pawn, King}
-use Rattle.pg_position.specs.declared.rights.Wing.{Wing}
-use Rattle.pg_position.specs.declared.rights.Wing.TheVariants.{KingSide, QueenSide}
-use Rattle.pg_board.specs.declared.man.Man.{Man}
-use Rattle.pg_position.specs.declared.refusals.Illegal.{Illegal}
-use Rattle.pg_position.specs.declared.refusals.Illegal.TheVariants.{EmptyFrom, OtherSide, NotAMove, LeavesCheck}
-use Rattle.pg_position.specs.declared.state.State.{State}
-use Rattle.pg_position.specs.declared.moves.Move.{Move}
-use Rattle.pg_position.specs.declared.moves.StepKind.{StepKind}
-use Rattle.pg_position.specs.declared.moves.StepKind.TheVariants.{Plain, Capture, DoubleAdvance, EnPassant, Promotion, Castling}
-use Rattle.pg_position.specs.Geometry.{apart, IsForward, InPattern}
-use Rattle.pg_board.specs.Squares.{file, rank}
-use Rattle.pg_board.specs.Men.{other, man}
-use Rattle.pg_board.specs.Placement.{get}
-use Rattle.pg_position.specs.Position.{Stands, IsVacant, IsPassed, PassedClause, IsPosition}
-use Rattle.pg_position.specs.Step.{IsEnemy, Goes, IsPlain, IsCapture, IsDoubleAdvance, IsEnPassant, IsCastling, IsWay, after, Step, Legal, IsCause}
-use Rattle.pg_position.specs.Squares.{king_home, ahead, HasAhead, passed_rank, home_rank, king_target}
+use Rattle.pg_position.proofs.Common.{◌≡◌, ◌≢◌, ℕ, ◌≤◌, Option, Some, None, refl, sym, ap, arith, ◌∙◌, Color, White, Black, Kind, Pawn, King, Wing, KingSide, QueenSide, Man, Illegal, EmptyFrom, OtherSide, NotAMove, LeavesCheck, State, Move, StepKind, Plain, Capture, DoubleAdvance, EnPassant, Promotion, Castling, apart, IsForward, InPattern, file, rank, other, man, get, Stands, IsVacant, IsPassed, PassedClause, IsPosition, IsEnemy, Goes, IsPlain, IsCapture, IsDoubleAdvance, IsEnPassant, IsCastling, IsWay, after, Step, Legal, IsCause, king_home, ahead, HasAhead, passed_rank, home_rank, king_target}
 
 -- a pawn taken in passing is on the board
 passed_behind : (c : Color) (e : ℕ) → rank e ≡ passed_rank c → HasAhead (other c) 1 e

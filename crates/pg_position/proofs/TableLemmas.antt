@@ -1,18 +1,7 @@
 -- Each entry of a table is the set of the squares in its pattern. Leads to the contracts of the masks.
-use Rattle.std.proofs.Common.{◌≡◌, ℕ, zero, suc, ◌<◌, ◌&&◌, Bool, true, List, [], get_or, eqb, refl, sym, ap, ◌∙◌, subst}
-use Rattle.std.specs.Bool.{Decides}
-use Rattle.std.proofs.lemmas.Bool.Decides.{Decides-below_and, Decides-eqb, Decides-at}
-use Rattle.pg_board.specs.declared.man.Color.{Color}
-use Rattle.pg_board.specs.declared.man.Kind.TheVariants.{Pawn, Knight, King}
-use Rattle.pg_board.specs.declared.man.Color.TheVariants.{White, Black}
-use Rattle.pg_board.specs.Bits.{has, bits_below, has-bits_below}
+use Rattle.pg_position.proofs.Common.{◌≡◌, ℕ, zero, suc, ◌<◌, ◌&&◌, Bool, true, List, [], get_or, eqb, refl, sym, ap, ◌∙◌, subst, Decides, Decides-below_and, Decides-eqb, Decides-at, Color, Pawn, Knight, King, White, Black, has, bits_below, has-bits_below, Direction, North, NorthEast, East, SouthEast, South, SouthWest, West, NorthWest, InPattern, OnRay, OnFileOrRank, OnDiagonal, direction_number, IsSetOf}
 use Rattle.pg_position.specs.declared.tables.TheConstants.{KNIGHT, KING, PAWN}
 use Rattle.pg_position.specs.declared.ray_tables.TheConstants.{RAYS, STRAIGHT, DIAGONAL}
-use Rattle.pg_position.specs.declared.direction.Direction.{Direction}
-use Rattle.pg_position.specs.declared.direction.Direction.TheVariants.{North, NorthEast, East, SouthEast, South, SouthWest, West, NorthWest}
-use Rattle.pg_position.specs.Geometry.{InPattern}
-use Rattle.pg_position.specs.inner.Rays.{OnRay, OnFileOrRank, OnDiagonal, direction_number}
-use Rattle.pg_board.specs.SquareSets.{IsSetOf}
 use Rattle.pg_position.proofs.PatternTests.{knight_test, king_test, pawn_test, ray_test, straight_test, diagonal_test, knight_decides, king_decides, pawn_decides, ray_decides, straight_decides, diagonal_decides}
 
 unfoldable all_below : (ℕ → Bool) → ℕ → Bool

@@ -1,27 +1,6 @@
 -- A step keeps the clauses of a position.
-use Rattle.std.proofs.Common.{◌≡◌, ◌≢◌, ℕ, ◌<◌, ◌⊎◌, inl, inr, Option, Some, None, Bool, true, refl, sym, subst, arith, ◌∙◌, nat_eq, not, ◌&&◌, ◌||◌}
-use Rattle.std.proofs.lemmas.Bool.Decides.{eqb_tells, nat_tests}
-use Rattle.pg_board.specs.declared.man.Color.{Color}
-use Rattle.pg_board.specs.declared.man.Color.TheVariants.{White, Black}
-use Rattle.pg_board.specs.declared.man.Kind.{Kind}
-use Rattle.pg_board.specs.declared.man.Kind.TheVariants.{Pawn, Rook, King}
-use Rattle.pg_position.specs.declared.rights.Wing.{Wing}
-use Rattle.pg_position.specs.declared.rights.Wing.TheVariants.{KingSide, QueenSide}
-use Rattle.pg_board.specs.declared.man.Man.{Man}
-use Rattle.pg_board.specs.Squares.{rank}
-use Rattle.pg_board.specs.Men.{other, man}
-use Rattle.pg_board.specs.Placement.{Placement as Board, get, write}
-use Rattle.pg_board.specs.lemmas.Placements.{get-write_same, get-write_other}
-use Rattle.pg_position.specs.declared.rights.Rights.{Rights}
-use Rattle.pg_position.specs.declared.state.State.{State}
-use Rattle.pg_position.specs.declared.moves.Move.{Move}
-use Rattle.pg_position.specs.declared.moves.StepKind.{StepKind}
-use Rattle.pg_position.specs.declared.moves.StepKind.TheVariants.{Plain, Capture, DoubleAdvance, EnPassant, Promotion, Castling}
-use Rattle.pg_position.specs.Geometry.{IsForward, InPattern, IsBetween}
-use Rattle.pg_position.specs.Attack.{IsClear, Reaches, AttacksFrom, Attacks}
-use Rattle.pg_position.specs.Position.{Stands, IsVacant, IsOnlyKing, HasOneKing, InCheck, holds, PawnsClause, IsHome, RightsClause, IsPassed, IsPosition}
-use Rattle.pg_position.specs.Step.{IsEnemy, Goes, IsPlain, IsCapture, IsDoubleAdvance, IsEnPassant, IsWay, relocated, board_after, passed_after, keeps, rights_after, after, Step}
-use Rattle.pg_position.specs.Squares.{king_home, rook_home, ahead, passed_rank, home_rank, last_rank, king_crossed, king_target}
+use Rattle.pg_position.proofs.Common.{◌≡◌, ◌≢◌, ℕ, ◌<◌, ◌⊎◌, inl, inr, Option, Some, None, Bool, true, refl, sym, subst, arith, ◌∙◌, nat_eq, not, ◌&&◌, ◌||◌, eqb_tells, nat_tests, Color, White, Black, Kind, Pawn, Rook, King, Wing, KingSide, QueenSide, Man, rank, other, man, get, write, get-write_same, get-write_other, Rights, State, Move, StepKind, Plain, Capture, DoubleAdvance, EnPassant, Promotion, Castling, IsForward, InPattern, IsBetween, IsClear, Reaches, AttacksFrom, Attacks, Stands, IsVacant, IsOnlyKing, HasOneKing, InCheck, holds, PawnsClause, IsHome, RightsClause, IsPassed, IsPosition, IsEnemy, Goes, IsPlain, IsCapture, IsDoubleAdvance, IsEnPassant, IsWay, relocated, board_after, passed_after, keeps, rights_after, after, Step, king_home, rook_home, ahead, passed_rank, home_rank, last_rank, king_crossed, king_target}
+use Rattle.pg_board.specs.Placement.{Placement as Board}
 use Rattle.pg_position.proofs.StepLemmas.{same_kind, same_side, not_other, some_none}
 
 written : (b : Board) (s : ℕ) (o : Option Man) → s < 64 → get (write b s o) s ≡ o

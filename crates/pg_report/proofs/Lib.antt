@@ -1,3 +1,4 @@
+mod Common
 pub mod RunLemmas
 pub mod ShortestLemmas
 pub mod ShowLemmas

@@ -1,14 +1,9 @@
 -- What the check of a list says, handed on to the run over texts. Leads to the contract of `run_check`.
-use Rattle.std.proofs.Common.{ℕ, List}
-use Rattle.pg_board.specs.Placement.{Placement}
-use Rattle.pg_position.specs.declared.moves.Move.{Move}
-use Rattle.pg_report.specs.declared.fault.RunFault.{RunFault}
+use Rattle.pg_report.proofs.Common.{ℕ, List, Placement, Move, RunFault, Terms, AreSpelled, Failures, IsCheckFault, IsOfTexts, IsRunFault, Texts, of_problem}
 use Rattle.pg_report.specs.declared.fault.RunFault.TheVariants.{Diagram, Length, Games, Check, Write}
 use Rattle.pg_checker.specs.declared.fault.ProblemFault.{ProblemFault}
 use Rattle.pg_checker.specs.declared.fault.ProblemFault.TheVariants as problem
 use Rattle.pg_checker.specs.ProblemText.{IsProblemFault}
-use Rattle.pg_checker.specs.Terms.{Terms}
-use Rattle.pg_report.specs.Run.{AreSpelled, Failures, IsCheckFault, IsOfTexts, IsRunFault, Texts, of_problem}
 
 pub refused_with : (asked : Texts) (t : Terms) (failed : Failures) (d : Placement) (n : ℕ) (list : List (List Move)) (e : RunFault)
     → AreSpelled asked.diagram asked.length asked.games d n list → IsCheckFault d n list t failed e → IsRunFault asked t failed e

@@ -1,11 +1,6 @@
 -- What is barren from the array has no solution. Leads to the contract of `shortest`.
-use Rattle.std.proofs.Common.{◌≡◌, ℕ, ◌<◌, ◌≤◌, ◌↔◌, Bool, false, List, Option, Some, None, IfSome, IsSome, subst, sym, ap}
-use Rattle.pg_board.specs.Placement.{Placement}
-use Rattle.pg_position.specs.declared.moves.Move.{Move}
-use Rattle.pg_position.specs.Array.{array_state}
-use Rattle.pg_position.specs.Game.{Barren}
+use Rattle.pg_report.proofs.Common.{◌≡◌, ℕ, ◌<◌, ◌≤◌, ◌↔◌, Bool, false, List, Option, Some, None, IfSome, IsSome, subst, sym, ap, Placement, Move, array_state, Barren, IsExcluded, IsLeastLength, NoneBelow}
 use Rattle.pg_checker.specs.Answer.{IsSolution}
-use Rattle.pg_report.specs.Shortest.{IsExcluded, IsLeastLength, NoneBelow}
 
 pub no_solution : (d : Placement) (n : ℕ) (ms : List Move) → Barren d array_state n → ¬ IsSolution d n ms
 unfolding Barren

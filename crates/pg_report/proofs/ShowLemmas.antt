@@ -1,22 +1,8 @@
 -- Texts appended one after the other make the lines that show a diagram. Leads to the contract of `run_show`.
-use Rattle.std.proofs.Common.{◌≡◌, ℕ, List, ◌++◌, Option, Some, subst, sym, refl}
-use Rattle.std.specs.Prelude.{codes}
-use Rattle.std.proofs.KnownBytes.{Appends-trans}
-use Rattle.std.specs.Io.KnownBytes.{Appends}
-use Rattle.pg_certificate.specs.Pushing.{AddsSome}
-use Rattle.pg_board.specs.Placement.{Placement}
-use Rattle.pg_board.specs.declared.man.Color.{Color}
-use Rattle.pg_board.specs.declared.man.Color.TheVariants.{White, Black}
-use Rattle.pg_captures.specs.Counting.{men, any_man}
-use Rattle.pg_fen.specs.Lengths.{length_text}
+use Rattle.pg_report.proofs.Common.{◌≡◌, ℕ, List, ◌++◌, Option, Some, subst, sym, refl, codes, Appends-trans, Appends, AddsSome, Placement, Color, White, Black, men, any_man, length_text, Reason, IsSideNeed, IsExpected, end_text, expected_text, range_text, AreKnown, name_of, counted_text, men_text, captured_text, reason_text, need_text, open_line, below_text, IsSideLine, IsShown}
 use Rattle.pg_texts.specs.BoardText.{board_text}
-use Rattle.pg_report.specs.declared.sides.Reason.{Reason}
-use Rattle.pg_report.specs.Sides.{IsSideNeed}
-use Rattle.pg_report.specs.Expecting.{IsExpected, end_text, expected_text, range_text}
 use Rattle.pg_report.specs.declared.expecting.Expected.{Expected}
-use Rattle.pg_report.specs.Within.{AreKnown, name_of}
 use Rattle.pg_journeys.specs.declared.facts.Facts.{Facts as FactSets}
-use Rattle.pg_report.specs.Showing.{counted_text, men_text, captured_text, reason_text, need_text, open_line, below_text, IsSideLine, IsShown}
 
 pub men_grow : (d : Placement) (c : Color) (n : ℕ) (name : List ℕ) (x y z : Option (List ℕ)) → name ≡ name_of c → n ≡ men c any_man d → Appends x y name → Appends y z (counted_text n (codes " man, captured ") (codes " men, captured ")) → Appends x z (men_text d c)
 men_grow d c n name x y z named counted first second = Appends-trans x y z (name_of c) _ (subst (Appends x y) named first) (subst (λ k. Appends y z (counted_text k (codes " man, captured ") (codes " men, captured "))) counted second)

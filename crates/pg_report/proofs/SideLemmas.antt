@@ -1,13 +1,5 @@
 -- What binds a colour leaves no game. Leads to the contract of `need_of`.
-use Rattle.std.proofs.Common.{◌≡◌, ◌↔◌, ℕ, ◌<◌, ◌≤◌, true, IsTrue, Option, Some, None, inl, inr, nat_lt, refl, subst, arith}
-use Rattle.std.proofs.lemmas.Bool.{lt-ltb, ltb-true}
-use Rattle.pg_board.specs.Placement.{Placement}
-use Rattle.pg_board.specs.declared.man.Color.{Color}
-use Rattle.pg_board.specs.declared.man.Color.TheVariants.{White}
-use Rattle.pg_position.specs.declared.state.State.{State}
-use Rattle.pg_position.specs.Array.{array_state}
-use Rattle.pg_position.specs.Game.{Barren}
-use Rattle.pg_position.proofs.ArrayLemmas.{array_position}
+use Rattle.pg_report.proofs.Common.{◌≡◌, ◌↔◌, ℕ, ◌<◌, ◌≤◌, true, IsTrue, Option, Some, None, inl, inr, nat_lt, refl, subst, arith, lt-ltb, ltb-true, Placement, Color, White, State, array_state, Barren, array_position, Reason, Binds, IsOpenFor, IsLastReason, NeedsPlies}
 use Rattle.pg_captures.specs.Owed.{plies_left, CapturesFor, PromotionsFor, CapturesHolds, PromotionsHolds}
 use Rattle.pg_captures.specs.lemmas.CapturesLaw.{captures_barren}
 use Rattle.pg_captures.specs.lemmas.PromotionsLaw.{promotions_barren}
@@ -17,9 +9,7 @@ use Rattle.pg_pawns.specs.lemmas.PawnPricesLaw.{pawn_prices_barren}
 use Rattle.pg_travel.specs.Needs.{IsNeed, NeedIs, TravelTest}
 use Rattle.pg_travel.specs.lemmas.NeedLemmas.{test_is_barren}
 use Rattle.pg_travel.specs.lemmas.TravelPricesLaw.{travel_prices_barren}
-use Rattle.pg_report.specs.declared.sides.Reason.{Reason}
 use Rattle.pg_report.specs.declared.sides.Reason.TheVariants.{Captures, Promotions, PawnFiles, Travel, Pairs}
-use Rattle.pg_report.specs.Sides.{Binds, IsOpenFor, IsLastReason, NeedsPlies}
 use Rattle.pg_report.proofs.ShortestLemmas.{none_left}
 
 -- ---- the need of travel

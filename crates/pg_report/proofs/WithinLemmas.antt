@@ -1,29 +1,12 @@
 -- What is known of the games of a length, and lists that grow by a square. Leads to the contracts of what is shown of a length.
-use Rattle.std.proofs.Common.{◌≡◌, ℕ, zero, suc, ◌+◌, ◌<◌, ◌≤◌, ◌&&◌, ◌||◌, nat_lt, cond, Bool, true, List, [], ◌++◌, Option, Some, None, IfSome, IfNone, refl, sym, ap, ap₂, subst, arith, add-one, ◌∙◌}
-use Rattle.std.specs.Prelude.{codes}
-use Rattle.std.proofs.lemmas.Bool.{lt-ltb}
-use Rattle.std.proofs.KnownBytes.{Appends-nil, Appends-trans}
-use Rattle.std.specs.Io.KnownBytes.{Appends}
-use Rattle.pg_board.specs.Bits.{has}
+use Rattle.pg_report.proofs.Common.{◌≡◌, ℕ, zero, suc, ◌+◌, ◌<◌, ◌≤◌, ◌&&◌, ◌||◌, nat_lt, cond, Bool, true, List, [], ◌++◌, Option, Some, None, IfSome, IfNone, refl, sym, ap, ap₂, subst, arith, add-one, ◌∙◌, codes, lt-ltb, Appends-nil, Appends-trans, Appends, has, Placement, get, get-placement_of, total, one, count_below, tally, tally_below, total_same, total-none, total-more, count_below_same, Color, White, Black, men, any_man, of_color, first_man, array_board, array_state, State, array_position, length_text, Squares, Men, AreKnown, name_of, mark_text, item_text, place_text, list_text, are_few, are_some, captures_text, unmoved_text, known_line, stays, facts_text}
 use Rattle.pg_board.specs.Men.{passes}
-use Rattle.pg_board.specs.Placement.{Placement, get, get-placement_of}
-use Rattle.pg_board.specs.Tally.{total, one, count_below, tally, tally_below}
-use Rattle.pg_board.specs.lemmas.Sums.{total_same, total-none, total-more, count_below_same}
-use Rattle.pg_board.specs.declared.man.Color.{Color}
-use Rattle.pg_board.specs.declared.man.Color.TheVariants.{White, Black}
-use Rattle.pg_captures.specs.Counting.{men, any_man, of_color}
-use Rattle.pg_position.specs.Array.{first_man, array_board, array_state}
-use Rattle.pg_position.specs.declared.state.State.{State}
-use Rattle.pg_position.proofs.ArrayLemmas.{array_position}
-use Rattle.pg_fen.specs.Lengths.{length_text}
 use Rattle.pg_journeys.specs.Facts.{FactsHold}
 use Rattle.pg_journeys.specs.Known.{known, landing}
 use Rattle.pg_journeys.specs.Rounds.{AreFacts, HasFew, JourneysHold}
 use Rattle.pg_journeys.specs.lemmas.RoundLemmas.{journeys_barren}
 use Rattle.pg_journeys.specs.declared.facts.Facts.{Facts as FactSets}
 use Rattle.pg_report.specs.declared.within.Naming.{Naming}
-use Rattle.pg_report.specs.declared.within.Naming.TheVariants.{Squares, Men}
-use Rattle.pg_report.specs.Within.{AreKnown, name_of, mark_text, item_text, place_text, list_text, are_few, are_some, captures_text, unmoved_text, known_line, stays, facts_text}
 use Rattle.pg_report.proofs.ShortestLemmas.{no_solution}
 
 -- ---- what is known

@@ -1,10 +1,5 @@
 -- Games compared move by move: the order of two games is that of what is left behind the moves that are the same.
-use Rattle.std.proofs.Common.{◌≡◌, ℕ, ◌<◌, ◌≤◌, None, List, [], length, get_or, drop, sym, ap₂, arith, ◌∙◌}
-use Rattle.std.proofs.Math.Seq.{drop-cons}
-use Rattle.std.proofs.lemmas.List.{drop_all}
-use Rattle.std.specs.declared.cmp.Ordering.TheVariants.{Less, Greater}
-use Rattle.pg_position.specs.declared.moves.Move.{Move}
-use Rattle.pg_san.specs.Games.{game_cmp}
+use Rattle.pg_san.proofs.Common.{◌≡◌, ℕ, ◌<◌, ◌≤◌, None, List, [], length, get_or, drop, sym, ap₂, arith, ◌∙◌, drop-cons, drop_all, Less, Greater, Move, game_cmp}
 
 -- the first moves are the same, as many as i, and so the games are ordered as what is left of them
 pub record AreAlikeTo (a b : List Move) (i : ℕ) : Type 0 where

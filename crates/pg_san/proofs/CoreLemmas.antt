@@ -1,19 +1,6 @@
 -- A core that is spelled is read.
-use Rattle.std.proofs.Common.{◌≡◌, ℕ, ◌+◌, ◌-◌, ◌*◌, ◌≤◌, ◌<◌, Bool, true, false, cond, List, [], ◌∷◌, ◌++◌, Option, Some, None, refl, sym, ap, subst, ◌∙◌, arith, inl, inr}
+use Rattle.pg_san.proofs.Common.{◌≡◌, ℕ, ◌+◌, ◌-◌, ◌*◌, ◌≤◌, ◌<◌, Bool, true, false, cond, List, [], ◌∷◌, ◌++◌, Option, Some, None, refl, sym, ap, subst, ◌∙◌, arith, inl, inr, option_and_then, reverse, nat_eq, nat_tests, reverse-reverse, reverse-append, Kind, file, rank, Core, Parts, Sep, Nothing, Cross, Hyphen, is_file, is_rank, parts_in, promotion_in, plain_core, core_of, piece_of, promoted_of, IsOfBoard, file_byte, rank_byte, file_text, rank_text, sep_text, parts_text, IsPieceText, IsPromotionText}
 use Rattle.std.specs.Char.{to_ascii_uppercase}
-use Rattle.std.specs.Option.{option_and_then}
-use Rattle.std.specs.Prelude.{reverse, nat_eq}
-use Rattle.std.proofs.lemmas.Bool.Decides.{nat_tests}
-use Rattle.std.proofs.lemmas.List.{reverse-reverse, reverse-append}
-use Rattle.pg_board.specs.declared.man.Kind.{Kind}
-use Rattle.pg_board.specs.Squares.{file, rank}
-use Rattle.pg_san.specs.declared.cores.Core.{Core}
-use Rattle.pg_san.specs.declared.cores.Parts.{Parts}
-use Rattle.pg_san.specs.declared.cores.Sep.{Sep}
-use Rattle.pg_san.specs.declared.cores.Sep.TheVariants.{Nothing, Cross, Hyphen}
-use Rattle.pg_san.specs.CoreText.{is_file, is_rank, parts_in, promotion_in, plain_core, core_of}
-use Rattle.pg_san.specs.Spelling.{piece_of, promoted_of, IsOfBoard, file_byte, rank_byte, file_text, rank_text}
-use Rattle.pg_san.specs.Grammar.{sep_text, parts_text, IsPieceText, IsPromotionText}
 use Rattle.pg_san.proofs.PlainTexts.{IsPlainText}
 
 -- ---- the tests of the bytes that spell a file, a rank and a square

@@ -1,21 +1,5 @@
 -- A whole text that is spelled is read: its ends come off, and what is left is castling or a core.
-use Rattle.std.proofs.Common.{◌≡◌, ℕ, ◌+◌, ◌<◌, ◌≤◌, Bool, true, false, List, [], ◌∷◌, ◌++◌, Option, Some, None, refl, sym, ap, subst, arith, ◌∙◌, inl, inr}
-use Rattle.std.specs.Prelude.{reverse, nat_eq}
-use Rattle.std.specs.Option.{option_map}
-use Rattle.std.proofs.lemmas.Bool.Decides.{nat_tests, eqb_tells}
-use Rattle.std.proofs.lemmas.List.{reverse-reverse, reverse-append, append_assoc}
-use Rattle.pg_board.specs.declared.man.Kind.{Kind}
-use Rattle.pg_board.specs.Squares.{file, rank}
-use Rattle.pg_position.specs.declared.rights.Wing.TheVariants.{KingSide, QueenSide}
-use Rattle.pg_san.specs.declared.cores.Core.{Core}
-use Rattle.pg_san.specs.declared.cores.Sep.{Sep}
-use Rattle.pg_san.specs.declared.said.Form.{Form}
-use Rattle.pg_san.specs.declared.said.Form.TheVariants.{Castles, Moves}
-use Rattle.pg_san.specs.declared.said.Said.{Said}
-use Rattle.pg_san.specs.CoreText.{core_of}
-use Rattle.pg_san.specs.Spelling.{piece_of, promoted_of, file_byte, rank_byte, file_text, rank_text}
-use Rattle.pg_san.specs.Said.{castling_of, form_of, said_by, said_of, passing_in, without_mark, without_check, without_marks}
-use Rattle.pg_san.specs.Grammar.{sep_text, parts_text, IsPieceText, IsPromotionText, IsFormText, IsPassingText, IsCheckText, IsMark, IsMarksText, IsSaidText}
+use Rattle.pg_san.proofs.Common.{◌≡◌, ℕ, ◌+◌, ◌<◌, ◌≤◌, Bool, true, false, List, [], ◌∷◌, ◌++◌, Option, Some, None, refl, sym, ap, subst, arith, ◌∙◌, inl, inr, reverse, nat_eq, option_map, nat_tests, eqb_tells, reverse-reverse, reverse-append, append_assoc, Kind, file, rank, KingSide, QueenSide, Core, Sep, Form, Castles, Moves, Said, core_of, piece_of, promoted_of, file_byte, rank_byte, file_text, rank_text, castling_of, form_of, said_by, said_of, passing_in, without_mark, without_check, without_marks, sep_text, parts_text, IsPieceText, IsPromotionText, IsFormText, IsPassingText, IsCheckText, IsMark, IsMarksText, IsSaidText}
 use Rattle.pg_san.proofs.PlainTexts.{IsPlainText, plain_text}
 use Rattle.pg_san.proofs.CoreLemmas.{First, parts_first, reversed_parts, piece_again, plain_again}
 

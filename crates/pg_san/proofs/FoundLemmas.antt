@@ -1,18 +1,5 @@
 -- What is read is spelled: each part that comes off a reversed text stood there, and nothing else did.
-use Rattle.std.proofs.Common.{◌≡◌, ℕ, ◌+◌, ◌-◌, ◌*◌, ◌<◌, ◌≤◌, ◌⊎◌, Bool, true, false, cond, List, [], ◌∷◌, ◌++◌, length, Option, Some, None, refl, sym, ap, subst, arith, ◌∙◌, inl, inr}
-use Rattle.std.specs.Prelude.{reverse, nat_eq, ◌&&◌}
-use Rattle.std.specs.Option.{option_map, option_and_then}
-use Rattle.std.proofs.lemmas.Bool.Decides.{nat_tests}
-use Rattle.std.proofs.lemmas.List.{reverse-reverse, reverse-append, nil_from_length}
-use Rattle.pg_board.specs.declared.man.Kind.{Kind}
-use Rattle.pg_board.specs.Squares.{file, rank}
-use Rattle.pg_san.specs.declared.cores.Core.{Core}
-use Rattle.pg_san.specs.declared.cores.Parts.{Parts}
-use Rattle.pg_san.specs.declared.cores.Sep.{Sep}
-use Rattle.pg_san.specs.declared.cores.Sep.TheVariants.{Nothing, Cross, Hyphen}
-use Rattle.pg_san.specs.CoreText.{is_file, is_rank, file_in, rank_in, square_in, sep_in, without_equals, promotion_by, promotion_in, source_in, parts_by, parts_in, plain_core, core_by, core_of}
-use Rattle.pg_san.specs.Spelling.{piece_of, promoted_of, IsOfBoard, file_byte, rank_byte, file_text, rank_text}
-use Rattle.pg_san.specs.Grammar.{piece_core, sep_text, parts_text, AreOfBoard, IsPieceText, IsPawnText, IsSquaresText, IsPromotionText}
+use Rattle.pg_san.proofs.Common.{◌≡◌, ℕ, ◌+◌, ◌-◌, ◌*◌, ◌<◌, ◌≤◌, ◌⊎◌, Bool, true, false, cond, List, [], ◌∷◌, ◌++◌, length, Option, Some, None, refl, sym, ap, subst, arith, ◌∙◌, inl, inr, reverse, nat_eq, ◌&&◌, option_map, option_and_then, nat_tests, reverse-reverse, reverse-append, nil_from_length, Kind, file, rank, Core, Parts, Sep, Nothing, Cross, Hyphen, is_file, is_rank, file_in, rank_in, square_in, sep_in, without_equals, promotion_by, promotion_in, source_in, parts_by, parts_in, plain_core, core_by, core_of, piece_of, promoted_of, IsOfBoard, file_byte, rank_byte, file_text, rank_text, piece_core, sep_text, parts_text, AreOfBoard, IsPieceText, IsPawnText, IsSquaresText, IsPromotionText}
 use Rattle.pg_san.proofs.PlainTexts.{IsPlainText, of_plain_text}
 use Rattle.pg_san.proofs.CoreLemmas.{reversed_parts}
 

@@ -1,14 +1,5 @@
 -- Games grow by one legal move at their end, and stop being games at a move that is not legal.
-use Rattle.std.proofs.Common.{◌≡◌, ℕ, suc, ◌+◌, ◌<◌, ◌≤◌, List, [], ◌∷◌, ◌++◌, length, get_or, take, drop, refl, sym, ap, subst, arith, ◌∙◌}
-use Rattle.std.proofs.lemmas.List.{take_more, take_all, length-take-le, take-append-drop}
-use Rattle.std.proofs.Math.Seq.{drop-cons}
-use Rattle.pg_position.specs.declared.state.State.{State}
-use Rattle.pg_position.specs.declared.moves.Move.{Move}
-use Rattle.pg_position.specs.Step.{Legal}
-use Rattle.pg_position.specs.Array.{array_state}
-use Rattle.pg_position.specs.Game.{IsGame}
-use Rattle.pg_san.specs.Games.{IsFromArray}
-use Rattle.pg_san.specs.Adding.{IsIllegalAt}
+use Rattle.pg_san.proofs.Common.{◌≡◌, ℕ, suc, ◌+◌, ◌<◌, ◌≤◌, List, [], ◌∷◌, ◌++◌, length, get_or, take, drop, refl, sym, ap, subst, arith, ◌∙◌, take_more, take_all, length-take-le, take-append-drop, drop-cons, State, Move, Legal, array_state, IsGame, IsFromArray, IsIllegalAt}
 
 -- one legal move more
 pub game_more : (p : State) (ms : List Move) (m : Move) (q r : State) → IsGame p ms q → Legal q m r → IsGame p (ms ++ m ∷ []) r

@@ -1,14 +1,6 @@
 -- Readings that are kept are true, and give what reading gives.
-use Rattle.std.proofs.Common.{◌≡◌, ℕ, ◌<◌, ◌≤◌, List, ◌++◌, length, take, get_or, set, Ok, refl, sym, subst, ◌∙◌, arith}
-use Rattle.std.specs.Prelude.{All}
-use Rattle.std.proofs.lemmas.List.{take_at, get_or_default}
-use Rattle.std.proofs.lemmas.List.Elements.{All-set}
-use Rattle.pg_position.specs.declared.state.State.{State}
-use Rattle.pg_position.specs.declared.moves.Move.{Move}
-use Rattle.pg_position.specs.Step.{Legal}
+use Rattle.pg_san.proofs.Common.{◌≡◌, ℕ, ◌<◌, ◌≤◌, List, ◌++◌, length, take, get_or, set, Ok, refl, sym, subst, ◌∙◌, arith, All, take_at, get_or_default, All-set, State, Move, Legal, IsReading, IsKnown, IsStepRead}
 use Rattle.pg_san.specs.declared.known.Known.{Known}
-use Rattle.pg_san.specs.Matching.{IsReading}
-use Rattle.pg_san.specs.KnownReadings.{IsKnown, IsStepRead}
 
 pub says_nothing : (k : Known) → 8 < k.length → IsKnown k
 unfolding IsKnown

@@ -1,22 +1,5 @@
 -- The text of a legal move is matched by that move alone.
-use Rattle.std.proofs.Common.{ap, ◌≡◌, ◌≢◌, ℕ, ◌⊎◌, true, false, List, Option, Some, None, refl, sym, subst, arith, ◌∙◌, inl, inr}
-use Rattle.std.specs.Prelude.{IfSome, Result, Ok, Err}
-use Rattle.std.proofs.lemmas.Bool.Decides.{eqb_tells}
-use Rattle.pg_board.specs.declared.man.Kind.{Kind}
-use Rattle.pg_board.specs.declared.man.Kind.TheVariants.{Pawn, Knight, Bishop, Rook, Queen, King}
-use Rattle.pg_board.specs.Squares.{file, rank}
-use Rattle.pg_position.specs.declared.state.State.{State}
-use Rattle.pg_position.specs.declared.moves.Move.{Move}
-use Rattle.pg_position.specs.Position.{Stands}
-use Rattle.pg_position.specs.Step.{IsLegal}
-use Rattle.pg_san.specs.declared.cores.Core.{Core}
-use Rattle.pg_san.specs.declared.fault.SanFault.{SanFault}
-use Rattle.pg_san.specs.declared.fault.SanFault.TheVariants.{Shape, NoSuchMove, Ambiguous}
-use Rattle.pg_san.specs.declared.said.Form.{Form}
-use Rattle.pg_san.specs.declared.said.Form.TheVariants.{Castles, Moves}
-use Rattle.pg_san.specs.declared.said.Said.{Said}
-use Rattle.pg_san.specs.Matching.{FitsCore, FitsForm, FitsAs, Fits, Matches, IsReading}
-use Rattle.pg_san.specs.Writing.{HasRival, IsHint, IsPawnHint, IsCore, IsForm, IsSan}
+use Rattle.pg_san.proofs.Common.{ap, ◌≡◌, ◌≢◌, ℕ, ◌⊎◌, true, false, List, Option, Some, None, refl, sym, subst, arith, ◌∙◌, inl, inr, IfSome, Result, Ok, Err, eqb_tells, Kind, Pawn, Knight, Bishop, Rook, Queen, King, file, rank, State, Move, Stands, IsLegal, Core, SanFault, Shape, NoSuchMove, Ambiguous, Form, Castles, Moves, Said, FitsCore, FitsForm, FitsAs, Fits, Matches, IsReading, HasRival, IsHint, IsPawnHint, IsCore, IsForm, IsSan}
 use Rattle.pg_san.proofs.MoveLemmas.{same_move, one_pawn, pace_of, Goer, goer, same_castling}
 use Rattle.pg_san.proofs.SpellLemmas.{source_of, plainly, written_spelled, written_says}
 use Rattle.pg_san.proofs.EndLemmas.{said_again}

@@ -1,3 +1,4 @@
+mod Common
 pub mod MoveLemmas
 pub mod SourceLemmas
 pub mod WalkLemmas

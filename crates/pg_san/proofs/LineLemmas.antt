@@ -1,12 +1,8 @@
 -- A text is cut into its lines one at a time.
-use Rattle.std.proofs.Common.{◌≡◌, ℕ, suc, ◌+◌, ◌<◌, Bool, true, false, List, [], ◌∷◌, ◌++◌, length, get_or, take, drop, refl, sym, ap, ◌∙◌, arith, map}
-use Rattle.std.specs.List.{All, slice_split}
+use Rattle.pg_san.proofs.Common.{◌≡◌, ℕ, suc, ◌+◌, ◌<◌, Bool, true, false, List, [], ◌∷◌, ◌++◌, length, get_or, take, drop, refl, sym, ap, ◌∙◌, arith, map, All, slice_split, get_or_default, take-append-drop, get_or-take, length-take-le, drop-cons, is_feed, lines}
 use Rattle.std.specs.Str.Lines.{strip_carriage_return}
-use Rattle.std.proofs.lemmas.List.{get_or_default, take-append-drop, get_or-take, length-take-le}
 use Rattle.std.proofs.lemmas.List.Splits.{slice_split_at, slice_split_none}
-use Rattle.std.proofs.Math.Seq.{drop-cons}
 use Rattle.memchr.specs.Find.{Nowhere, NoneBefore, Passes, is_byte}
-use Rattle.pg_san.specs.GameText.{is_feed, lines}
 
 -- no line feed up to n
 no_feed : (b : Bool) → ¬ (b ≡ true) → b ≡ false

@@ -1,22 +1,7 @@
 -- A text of games is read one line at a time.
-use Rattle.std.proofs.Common.{◌≡◌, ◌≢◌, ◌↔◌, ℕ, ◌+◌, ◌<◌, inl, inr, List, [], ◌∷◌, ◌++◌, length, refl, sym, ap, subst, arith, ◌∙◌, append_assoc}
-use Rattle.std.specs.Prelude.{Result, Ok, Err, MatchResult}
-use Rattle.std.specs.List.{Contains}
-use Rattle.std.proofs.lemmas.List.{append-nil, length-append}
-use Rattle.std.proofs.lemmas.List.Elements.{Contains-append_left, Contains-push, Contains-push_cases}
-use Rattle.pg_position.specs.declared.state.State.{State}
-use Rattle.pg_position.specs.declared.moves.Move.{Move}
-use Rattle.pg_position.specs.Array.{array_state}
-use Rattle.pg_position.specs.Game.{IsGame, IsOnce}
-use Rattle.pg_moves.proofs.SortLemmas.{Contains-none, Contains-head, Contains-later}
+use Rattle.pg_san.proofs.Common.{◌≡◌, ◌≢◌, ◌↔◌, ℕ, ◌+◌, ◌<◌, inl, inr, List, [], ◌∷◌, ◌++◌, length, refl, sym, ap, subst, arith, ◌∙◌, append_assoc, Result, Ok, Err, MatchResult, Contains, append-nil, length-append, Contains-append_left, Contains-push, Contains-push_cases, State, Move, array_state, IsGame, IsOnce, Contains-none, Contains-head, Contains-later, GamesFault, At, TooMany, Repeated, Memory, IsFromArray, IsGames, IsAdded, words, dash, lines, Spells, AreGame, IsGameLine, IsBadLine, Give, AreRead, IsListing, IsLine, IsLineFault, IsTextFault}
 use Rattle.pg_san.specs.declared.listing.LineFault.{LineFault}
 use Rattle.pg_san.specs.declared.listing.LineFault.TheVariants.{Word, NoMemory}
-use Rattle.pg_san.specs.declared.listing_fault.GamesFault.{GamesFault}
-use Rattle.pg_san.specs.declared.listing_fault.GamesFault.TheVariants.{At, TooMany, Repeated, Memory}
-use Rattle.pg_san.specs.Games.{IsFromArray, IsGames}
-use Rattle.pg_san.specs.Adding.{IsAdded}
-use Rattle.pg_san.specs.GameText.{words, dash, lines}
-use Rattle.pg_san.specs.Listing.{Spells, AreGame, IsGameLine, IsBadLine, Give, AreRead, IsListing, IsLine, IsLineFault, IsTextFault}
 use Rattle.pg_san.specs.inner.LineReading.{IsWordsFault, IsGameFault, IsLineRead}
 
 -- ---- a line

@@ -1,27 +1,10 @@
 -- What a legal move is: its man, the way it goes, and which of its squares tell en passant and castling.
-use Rattle.std.specs.Prelude.{◌↔◌}
-use Rattle.std.proofs.Common.{◌≡◌, ◌≢◌, ℕ, ◌+◌, ◌-◌, ◌*◌, ◌≤◌, Some, None, refl, sym, ap, subst, arith, ◌∙◌, inl, inr}
-use Rattle.pg_board.specs.declared.man.Color.{Color}
+use Rattle.pg_san.proofs.Common.{◌↔◌, ◌≡◌, ◌≢◌, ℕ, ◌+◌, ◌-◌, ◌*◌, ◌≤◌, Some, None, refl, sym, ap, subst, arith, ◌∙◌, inl, inr, Color, Kind, Pawn, King, Man, file, rank, man, get, Wing, KingSide, QueenSide, State, Move, Stands, IsVacant, IsPassed, IsPosition, IsLegal, IsEnemy, Goes, IsPiece, IsWay, IsEnPassant, IsCastling, Step, ahead, king_home, passed_rank, home_rank, last_rank, king_target, same_kind, some_none, Said, GoesTwo, IsCapturing, FitsAs}
 use Rattle.pg_board.specs.declared.man.Color.TheVariants.{White, Black}
-use Rattle.pg_board.specs.declared.man.Kind.{Kind}
-use Rattle.pg_board.specs.declared.man.Kind.TheVariants.{Pawn, King}
-use Rattle.pg_board.specs.declared.man.Man.{Man}
-use Rattle.pg_board.specs.Squares.{file, rank}
-use Rattle.pg_board.specs.Men.{man}
-use Rattle.pg_board.specs.Placement.{Placement as Board, get}
-use Rattle.pg_position.specs.declared.rights.Wing.{Wing}
-use Rattle.pg_position.specs.declared.rights.Wing.TheVariants.{KingSide, QueenSide}
-use Rattle.pg_position.specs.declared.state.State.{State}
-use Rattle.pg_position.specs.declared.moves.Move.{Move}
+use Rattle.pg_board.specs.Placement.{Placement as Board}
 use Rattle.pg_position.specs.declared.moves.StepKind.{StepKind}
 use Rattle.pg_position.specs.declared.moves.StepKind.TheVariants.{Plain, Capture, DoubleAdvance, EnPassant, Promotion, Castling as CastlingWay}
 use Rattle.pg_position.specs.Geometry.{apart, IsForward, InPattern}
-use Rattle.pg_position.specs.Position.{Stands, IsVacant, IsPassed, IsPosition}
-use Rattle.pg_position.specs.Step.{IsLegal, IsEnemy, Goes, IsPiece, IsWay, IsEnPassant, IsCastling, Step}
-use Rattle.pg_position.specs.Squares.{ahead, king_home, passed_rank, home_rank, last_rank, king_target}
-use Rattle.pg_position.proofs.StepLemmas.{same_kind, some_none}
-use Rattle.pg_san.specs.declared.said.Said.{Said}
-use Rattle.pg_san.specs.Matching.{GoesTwo, IsCapturing, FitsAs}
 
 pub same_move : (m n : Move) → m.from ≡ n.from → m.to ≡ n.to → m.promotion ≡ n.promotion → m ≡ n
 same_move m n e g h = λ i. record { from = e i; to = g i; promotion = h i }

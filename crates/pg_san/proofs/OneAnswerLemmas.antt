@@ -1,25 +1,5 @@
 -- A text has one list of games or one first fault: reading is followed word by word and line by line.
-use Rattle.std.proofs.Common.{◌≡◌, ◌≢◌, ℕ, suc, ◌+◌, ◌<◌, ◌≤◌, ◌⊎◌, inl, inr, Option, Some, None, List, [], ◌∷◌, ◌++◌, length, refl, sym, ap, subst, arith, ◌∙◌, append_assoc}
-use Rattle.std.specs.Prelude.{Result, Ok, Err}
-use Rattle.std.specs.List.{Contains}
-use Rattle.std.proofs.lemmas.List.{append-nil, length-append}
-use Rattle.std.proofs.lemmas.List.Elements.{Contains-append_right}
-use Rattle.pg_position.specs.declared.state.State.{State}
-use Rattle.pg_position.specs.declared.moves.Move.{Move}
-use Rattle.pg_position.specs.Array.{array_state}
-use Rattle.pg_position.specs.Position.{IsPosition}
-use Rattle.pg_position.specs.Step.{Legal}
-use Rattle.pg_position.proofs.ArrayLemmas.{array_position}
-use Rattle.pg_position.proofs.FutureLemmas.{legal_position, one_result}
-use Rattle.pg_position.specs.Game.{IsOnce}
-use Rattle.pg_moves.proofs.SortLemmas.{Contains-none, Contains-head, Contains-cons}
-use Rattle.pg_san.specs.declared.fault.SanFault.{SanFault}
-use Rattle.pg_san.specs.declared.fault.SanFault.TheVariants.{Shape, NoSuchMove, Ambiguous}
-use Rattle.pg_san.specs.declared.listing_fault.GamesFault.{GamesFault}
-use Rattle.pg_san.specs.declared.listing_fault.GamesFault.TheVariants.{At, TooMany, Repeated, Memory}
-use Rattle.pg_san.specs.Matching.{Matches, IsReading}
-use Rattle.pg_san.specs.GameText.{words, without_move_number, lines}
-use Rattle.pg_san.specs.Listing.{Spells, AreGame, IsBadWord, IsGameLine, IsBadLine, Give, AreRead, IsListing, IsLine, IsLineFault, IsTextFault}
+use Rattle.pg_san.proofs.Common.{◌≡◌, ◌≢◌, ℕ, suc, ◌+◌, ◌<◌, ◌≤◌, ◌⊎◌, inl, inr, Option, Some, None, List, [], ◌∷◌, ◌++◌, length, refl, sym, ap, subst, arith, ◌∙◌, append_assoc, Result, Ok, Err, Contains, append-nil, length-append, Contains-append_right, State, Move, array_state, IsPosition, Legal, array_position, legal_position, one_result, IsOnce, Contains-none, Contains-head, Contains-cons, SanFault, Shape, NoSuchMove, Ambiguous, GamesFault, At, TooMany, Repeated, Memory, Matches, IsReading, words, without_move_number, lines, Spells, AreGame, IsBadWord, IsGameLine, IsBadLine, Give, AreRead, IsListing, IsLine, IsLineFault, IsTextFault}
 use Rattle.pg_san.proofs.OrderLemmas.{same_games}
 
 -- ---- a word

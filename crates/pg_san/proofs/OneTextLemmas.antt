@@ -1,21 +1,6 @@
 -- One text is written for each legal move of a position.
-use Rattle.std.proofs.Common.{◌≡◌, ◌≢◌, ℕ, ◌+◌, arith, Bool, true, false, List, ◌++◌, Option, Some, None, refl, sym, ap, subst, ◌∙◌, inl, inr}
-use Rattle.pg_board.specs.declared.man.Kind.{Kind}
-use Rattle.pg_board.specs.declared.man.Kind.TheVariants.{Pawn, Knight, Bishop, Rook, Queen, King}
-use Rattle.pg_board.specs.Squares.{file}
-use Rattle.pg_position.specs.declared.state.State.{State}
-use Rattle.pg_position.specs.declared.moves.Move.{Move}
-use Rattle.pg_position.specs.Position.{IsPosition}
-use Rattle.pg_position.proofs.FutureLemmas.{one_result}
-use Rattle.pg_position.proofs.StepLemmas.{same_kind}
-use Rattle.pg_position.specs.declared.rights.Wing.TheVariants.{KingSide, QueenSide}
-use Rattle.pg_san.specs.declared.cores.Core.{Core}
+use Rattle.pg_san.proofs.Common.{◌≡◌, ◌≢◌, ℕ, ◌+◌, arith, Bool, true, false, List, ◌++◌, Option, Some, None, refl, sym, ap, subst, ◌∙◌, inl, inr, Kind, Pawn, Knight, Bishop, Rook, Queen, King, file, State, Move, IsPosition, one_result, same_kind, KingSide, QueenSide, Core, Form, Castles, Moves, GoesTwo, form_text, HasRival, IsHint, IsCore, IsForm, IsSignOf, IsSan}
 use Rattle.pg_san.specs.declared.rivals.Among.TheVariants.{Anywhere, SameFile}
-use Rattle.pg_san.specs.declared.said.Form.{Form}
-use Rattle.pg_san.specs.declared.said.Form.TheVariants.{Castles, Moves}
-use Rattle.pg_san.specs.Matching.{GoesTwo}
-use Rattle.pg_san.specs.Spelling.{form_text}
-use Rattle.pg_san.specs.Writing.{HasRival, IsHint, IsCore, IsForm, IsSignOf, IsSan}
 use Rattle.pg_san.proofs.MoveLemmas.{castling_two}
 use Rattle.pg_san.proofs.SpellLemmas.{same_core}
 

@@ -1,19 +1,10 @@
 -- The canonical order of games: a total order, in which games that tie are one.
-use Rattle.std.proofs.Common.{◌≡◌, ◌↔◌, ℕ, zero, suc, ◌<◌, List, [], ◌∷◌, length, get_or, refl, sym, ap, arith, ◌∙◌}
+use Rattle.pg_san.proofs.Common.{◌≡◌, ◌↔◌, ℕ, zero, suc, ◌<◌, List, [], ◌∷◌, length, get_or, refl, sym, ap, arith, ◌∙◌, Less, Equal, Greater, ordering_then, ordering_reverse, nat_cmp, Contains-get_or, Contains, IsStrictlySortedBy, Move, sorted_none, sorted_below, sorted_rest, sorted_same, Contains-none, IsOnce, game_cmp, IsGames}
 use Rattle.std.specs.declared.cmp.Ordering.{Ordering}
-use Rattle.std.specs.declared.cmp.Ordering.TheVariants.{Less, Equal, Greater}
-use Rattle.std.specs.Ordering.{ordering_then, ordering_reverse, nat_cmp}
 use Rattle.std.specs.Cmp.{IsTotalOrder}
 use Rattle.std.proofs.lemmas.Cmp.{lists_total, ranked, tied_itself}
-use Rattle.std.proofs.lemmas.List.Elements.{Contains-get_or}
-use Rattle.std.specs.List.{Contains}
-use Rattle.std.specs.List.Sorted.{IsStrictlySortedBy}
-use Rattle.pg_position.specs.declared.moves.Move.{Move}
 use Rattle.pg_moves.specs.Moves.{move_cmp, promotion_number}
 use Rattle.pg_moves.proofs.PlaceLemmas.{move_cmp_total, same_parts}
-use Rattle.pg_moves.proofs.SortLemmas.{sorted_none, sorted_below, sorted_rest, sorted_same, Contains-none}
-use Rattle.pg_position.specs.Game.{IsOnce}
-use Rattle.pg_san.specs.Games.{game_cmp, IsGames}
 
 pub game_cmp_total : IsTotalOrder game_cmp
 game_cmp_total = lists_total move_cmp_total

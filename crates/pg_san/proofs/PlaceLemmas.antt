@@ -1,22 +1,10 @@
 -- Where a game stands among games in canonical order: what a search by halves finds, and what a game more there leaves.
-use Rattle.std.proofs.Common.{◌≡◌, ◌↔◌, ℕ, suc, ◌+◌, ◌-◌, ◌<◌, ◌≤◌, ◌⊎◌, inl, inr, Bool, true, false, List, [], ◌∷◌, ◌++◌, map, length, get_or, take, drop, refl, sym, ap, subst, arith, ◌∙◌}
-use Rattle.std.specs.Prelude.{Option, Some, None, MatchOption, Result, Ok, Err, IsTrue, is_some, not}
+use Rattle.pg_san.proofs.Common.{◌≡◌, ◌↔◌, ℕ, suc, ◌+◌, ◌-◌, ◌<◌, ◌≤◌, ◌⊎◌, inl, inr, Bool, true, false, List, [], ◌∷◌, ◌++◌, map, length, get_or, take, drop, refl, sym, ap, subst, arith, ◌∙◌, Option, Some, None, MatchOption, Result, Ok, Err, IsTrue, is_some, not, Less, Greater, ordering_index, is_lt, All, AllWithin, Contains, insert, slice_get, IsStrictlySortedBy, IsNonDecreasingBy, IsBinarySearchResult, IsSearchInRange, cases_lt, map-append, get_or-map, get_or-take, get_or-drop, take-map, drop-map, length-map, length-take-le, length-drop, take-append-drop, take_all, drop_all, get_or_default, All-map, All-contains, recursion_from_All, Contains-get_or, Contains-append_left, Contains-append_right, Contains-append_cases, Move, Contains-none, Contains-head, Contains-later, Contains-cons, sorted_below, sorted_rest, game_cmp, IsFromArray, IsGames, IsPlace, IsNew, IsAdded}
 use Rattle.std.specs.Result.{result_err}
-use Rattle.std.specs.declared.cmp.Ordering.TheVariants.{Less, Greater}
-use Rattle.std.specs.Ordering.{ordering_index, is_lt}
-use Rattle.std.specs.List.{All, AllWithin, Contains, insert, slice_get}
-use Rattle.std.specs.List.Sorted.{IsStrictlySortedBy, IsNonDecreasingBy, IsBinarySearchResult, IsSearchInRange}
-use Rattle.std.proofs.lemmas.Bool.{cases_lt}
-use Rattle.std.proofs.lemmas.List.{map-append, get_or-map, get_or-take, get_or-drop, take-map, drop-map, length-map, length-take-le, length-drop, take-append-drop, take_all, drop_all, get_or_default}
 use Rattle.std.proofs.lemmas.List.Edits.{length-insert}
-use Rattle.std.proofs.lemmas.List.Elements.{All-map, All-contains, recursion_from_All, Contains-get_or, Contains-append_left, Contains-append_right, Contains-append_cases}
 use Rattle.std.proofs.lemmas.List.Sorted.{searchable_from_sorted}
 use Rattle.std.proofs.lemmas.Map.Keys.{Less-from_sorted}
 use Rattle.std.proofs.lemmas.Option.{get_or_from_slice_get, slice_get_within}
-use Rattle.pg_position.specs.declared.moves.Move.{Move}
-use Rattle.pg_moves.proofs.SortLemmas.{Contains-none, Contains-head, Contains-later, Contains-cons, sorted_below, sorted_rest}
-use Rattle.pg_san.specs.Games.{game_cmp, IsFromArray, IsGames, IsPlace}
-use Rattle.pg_san.specs.Adding.{IsNew, IsAdded}
 use Rattle.pg_san.proofs.OrderLemmas.{game_cmp_total, same_game, not_before_itself, after_before, before_after, next_later}
 
 module _ {V : Type 0} (f : V → List Move) where

@@ -1,15 +1,6 @@
 -- A text without a man's letter, as reading takes it apart: a source of which parts may be missing, a target and a promotion. It is a
 -- pawn's text or a text with two squares, and each of these is one.
-use Rattle.std.proofs.Common.{◌≡◌, ℕ, ◌+◌, ◌-◌, ◌*◌, ◌<◌, ◌≤◌, ◌⊎◌, inl, inr, Bool, true, false, List, ◌++◌, Option, Some, None, refl, sym, ap, ◌∙◌, arith}
-use Rattle.pg_board.specs.declared.man.Kind.{Kind}
-use Rattle.pg_board.specs.Squares.{file, rank}
-use Rattle.pg_san.specs.declared.cores.Core.{Core}
-use Rattle.pg_san.specs.declared.cores.Parts.{Parts}
-use Rattle.pg_san.specs.declared.cores.Sep.{Sep}
-use Rattle.pg_san.specs.declared.cores.Sep.TheVariants.{Nothing, Cross, Hyphen}
-use Rattle.pg_san.specs.CoreText.{plain_core, plain_by}
-use Rattle.pg_san.specs.Spelling.{IsOfBoard, square_text}
-use Rattle.pg_san.specs.Grammar.{sep_text, parts_text, AreOfBoard, is_cross, core_to, file_of, left_text, pawn_core, IsPromotionText, IsPawnText, IsSquaresText}
+use Rattle.pg_san.proofs.Common.{◌≡◌, ℕ, ◌+◌, ◌-◌, ◌*◌, ◌<◌, ◌≤◌, ◌⊎◌, inl, inr, Bool, true, false, List, ◌++◌, Option, Some, None, refl, sym, ap, ◌∙◌, arith, Kind, file, rank, Core, Parts, Sep, Nothing, Cross, Hyphen, plain_core, plain_by, IsOfBoard, square_text, sep_text, parts_text, AreOfBoard, is_cross, core_to, file_of, left_text, pawn_core, IsPromotionText, IsPawnText, IsSquaresText}
 
 pub record IsPlainText (text : List ℕ) (core : Core) : Type 0 where
   pub parts : Parts

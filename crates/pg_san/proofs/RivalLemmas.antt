@@ -1,24 +1,9 @@
 -- Rivals: a man other than a pawn has one legal move to a square at most, without promotion.
-use Rattle.std.proofs.Common.{◌≡◌, ◌≢◌, ℕ, ◌+◌, ◌<◌, true, false, refl, ap, subst, arith, ◌∙◌, inl, inr}
-use Rattle.std.proofs.lemmas.Bool.{cases_lt}
-use Rattle.std.proofs.lemmas.Bool.Decides.{Decides-at}
-use Rattle.pg_board.specs.declared.man.Kind.{Kind}
-use Rattle.pg_board.specs.declared.man.Kind.TheVariants.{Pawn}
-use Rattle.pg_board.specs.declared.man.Color.{Color}
-use Rattle.pg_board.specs.declared.man.Man.{Man}
+use Rattle.pg_san.proofs.Common.{◌≡◌, ◌≢◌, ℕ, ◌+◌, ◌<◌, true, false, refl, ap, subst, arith, ◌∙◌, inl, inr, cases_lt, Decides-at, Kind, Pawn, Color, Man, has, man, is_man, get, IsSetOf, HasNoneFrom, IsFirstFrom, Stands, State, Move, IsLegal, on_board, Counts, HasRival, IsRivalOn}
 use Rattle.pg_board.specs.lemmas.Equalities.{is_man_decides}
-use Rattle.pg_board.specs.Bits.{has}
-use Rattle.pg_board.specs.Men.{man, is_man}
-use Rattle.pg_board.specs.Placement.{Placement as Board, get}
-use Rattle.pg_board.specs.SquareSets.{IsSetOf, HasNoneFrom, IsFirstFrom}
-use Rattle.pg_position.specs.Position.{Stands}
-use Rattle.pg_position.specs.declared.state.State.{State}
-use Rattle.pg_position.specs.declared.moves.Move.{Move}
-use Rattle.pg_position.specs.Step.{IsLegal}
+use Rattle.pg_board.specs.Placement.{Placement as Board}
 use Rattle.pg_moves.specs.Targets.{plain_move}
-use Rattle.pg_moves.proofs.ListLemmas.{on_board}
 use Rattle.pg_san.specs.declared.rivals.Among.{Among}
-use Rattle.pg_san.specs.Writing.{Counts, HasRival, IsRivalOn}
 use Rattle.pg_san.proofs.MoveLemmas.{same_move, goer, unpromoted}
 
 pub rival_there : (p : State) (k : Kind) (m : Move) (among : Among) (s : ℕ) → IsRivalOn p k m among s → HasRival p k m among

@@ -1,14 +1,5 @@
 -- Moves that a game shares with one that is known, at its beginning, are legal.
-use Rattle.std.proofs.Common.{◌≡◌, ℕ, ◌+◌, ◌<◌, ◌≤◌, List, [], ◌∷◌, ◌++◌, length, get_or, take, drop, refl, sym, ap, subst, arith, ◌∙◌}
-use Rattle.std.proofs.lemmas.List.{take-take, get_or-take, take-append-drop}
-use Rattle.pg_position.specs.declared.state.State.{State}
-use Rattle.pg_position.specs.declared.moves.Move.{Move}
-use Rattle.pg_position.specs.Step.{IsLegal}
-use Rattle.pg_position.specs.Array.{array_state}
-use Rattle.pg_position.specs.Game.{IsGame}
-use Rattle.pg_position.proofs.ArrayLemmas.{array_position}
-use Rattle.pg_position.proofs.FutureLemmas.{one_end}
-use Rattle.pg_san.specs.Games.{IsFromArray}
+use Rattle.pg_san.proofs.Common.{◌≡◌, ℕ, ◌+◌, ◌<◌, ◌≤◌, List, [], ◌∷◌, ◌++◌, length, get_or, take, drop, refl, sym, ap, subst, arith, ◌∙◌, take-take, get_or-take, take-append-drop, State, Move, IsLegal, array_state, IsGame, array_position, one_end, IsFromArray}
 use Rattle.pg_san.proofs.GameLemmas.{front_at}
 
 -- in a game of moves, one, and more, the one is legal after those before it

@@ -1,26 +1,7 @@
 -- The squares of a file and of a rank, by tables; and which move may leave a square, as a text says.
-use Rattle.std.proofs.Common.{◌≡◌, ℕ, zero, suc, ◌<◌, ◌&&◌, Bool, true, Option, Some, None, List, get_or, eqb, refl, sym, ap, ◌∙◌, subst}
-use Rattle.std.specs.Prelude.{IfSome}
-use Rattle.std.proofs.lemmas.Bool.Decides.{Decides-below_and, Decides-eqb}
-use Rattle.pg_board.specs.declared.man.Kind.{Kind}
-use Rattle.pg_board.specs.Bits.{has, bits_below, has-bits_below}
-use Rattle.pg_board.specs.Squares.{file, rank}
-use Rattle.pg_board.specs.declared.man.Color.{Color}
-use Rattle.pg_board.specs.declared.man.Kind.TheVariants.{King}
+use Rattle.pg_san.proofs.Common.{◌≡◌, ℕ, zero, suc, ◌<◌, ◌&&◌, Bool, true, Option, Some, None, List, get_or, eqb, refl, sym, ap, ◌∙◌, subst, IfSome, Decides-below_and, Decides-eqb, Kind, has, bits_below, has-bits_below, file, rank, Color, King, Wing, State, Move, Stands, king_target, Legal, IsLegal, IsCastling, Core, Form, Castles, Moves, Said, FitsCore, FitsForm, Fits, HoldsSources, IsOnlyFrom, NoneLeaves}
 use Rattle.pg_board.specs.Placement.{Placement as Board}
-use Rattle.pg_position.specs.declared.rights.Wing.{Wing}
-use Rattle.pg_position.specs.declared.state.State.{State}
-use Rattle.pg_position.specs.declared.moves.Move.{Move}
-use Rattle.pg_position.specs.Position.{Stands}
-use Rattle.pg_position.specs.Squares.{king_target}
-use Rattle.pg_position.specs.Step.{Legal, IsLegal, IsCastling}
-use Rattle.pg_san.specs.declared.cores.Core.{Core}
-use Rattle.pg_san.specs.declared.said.Form.{Form}
-use Rattle.pg_san.specs.declared.said.Form.TheVariants.{Castles, Moves}
-use Rattle.pg_san.specs.declared.said.Said.{Said}
 use Rattle.pg_san.specs.declared.sources.TheConstants.{FILES, RANKS}
-use Rattle.pg_san.specs.Matching.{FitsCore, FitsForm, Fits}
-use Rattle.pg_san.specs.inner.Walk.{HoldsSources, IsOnlyFrom, NoneLeaves}
 use Rattle.pg_san.proofs.MoveLemmas.{same_move}
 
 unfoldable all_below : (ℕ → Bool) → ℕ → Bool

@@ -1,27 +1,6 @@
 -- What is written of a legal move is spelled by the grammar, says what it is to say, and has room in eight bytes.
-use Rattle.std.proofs.Common.{◌≡◌, ◌≢◌, ℕ, ◌+◌, ◌<◌, ◌≤◌, ◌⊎◌, Bool, true, false, List, [], ◌∷◌, ◌++◌, length, length-append, Option, Some, None, refl, sym, ap, subst, arith, ◌∙◌, inl, inr}
-use Rattle.std.proofs.lemmas.List.{append-nil}
-use Rattle.pg_board.specs.declared.man.Kind.{Kind}
-use Rattle.pg_board.specs.declared.man.Kind.TheVariants.{Pawn, Knight, Bishop, Rook, Queen, King}
-use Rattle.pg_board.specs.Squares.{file, rank}
+use Rattle.pg_san.proofs.Common.{◌≡◌, ◌≢◌, ℕ, ◌+◌, ◌<◌, ◌≤◌, ◌⊎◌, Bool, true, false, List, [], ◌∷◌, ◌++◌, length, length-append, Option, Some, None, refl, sym, ap, subst, arith, ◌∙◌, inl, inr, append-nil, Kind, Pawn, Knight, Bishop, Rook, Queen, King, file, rank, State, Move, Stands, IsLegal, IsPiece, on_board, KingSide, QueenSide, Core, Sep, Nothing, Cross, Form, Castles, Moves, Said, piece_of, IsOfBoard, file_text, rank_text, square_text, letter_text, cross_text, promotion_text, written_file, core_text, form_text, IsFormWritable, core_to, is_cross, parts_text, IsPieceText, IsPawnText, IsPromotionText, IsFormText, IsCheckText, IsSaidText, said_of, IsCapturing, IsHint, IsPawnHint, IsCore, IsForm, IsSignOf, IsSan}
 use Rattle.pg_board.specs.lemmas.Kinds.{each_kind}
-use Rattle.pg_position.specs.declared.state.State.{State}
-use Rattle.pg_position.specs.declared.moves.Move.{Move}
-use Rattle.pg_position.specs.Position.{Stands}
-use Rattle.pg_position.specs.Step.{IsLegal, IsPiece}
-use Rattle.pg_moves.proofs.ListLemmas.{on_board}
-use Rattle.pg_position.specs.declared.rights.Wing.TheVariants.{KingSide, QueenSide}
-use Rattle.pg_san.specs.declared.cores.Core.{Core}
-use Rattle.pg_san.specs.declared.cores.Sep.{Sep}
-use Rattle.pg_san.specs.declared.cores.Sep.TheVariants.{Nothing, Cross}
-use Rattle.pg_san.specs.declared.said.Form.{Form}
-use Rattle.pg_san.specs.declared.said.Form.TheVariants.{Castles, Moves}
-use Rattle.pg_san.specs.declared.said.Said.{Said}
-use Rattle.pg_san.specs.Spelling.{piece_of, IsOfBoard, file_text, rank_text, square_text, letter_text, cross_text, promotion_text, written_file, core_text, form_text, IsFormWritable}
-use Rattle.pg_san.specs.Grammar.{core_to, is_cross, parts_text, IsPieceText, IsPawnText, IsPromotionText, IsFormText, IsCheckText, IsSaidText}
-use Rattle.pg_san.specs.Said.{said_of}
-use Rattle.pg_san.specs.Matching.{IsCapturing}
-use Rattle.pg_san.specs.Writing.{IsHint, IsPawnHint, IsCore, IsForm, IsSignOf, IsSan}
 use Rattle.pg_san.proofs.MoveLemmas.{Goer, goer, unpromoted, promotes_to, stays_on_file}
 use Rattle.pg_san.proofs.EndLemmas.{said_again}
 

@@ -1,20 +1,7 @@
 -- A whole text that is read is spelled: castling or a core, and the ends that came off it.
-use Rattle.std.proofs.Common.{◌≡◌, ℕ, ◌⊎◌, Bool, true, false, cond, List, [], ◌∷◌, ◌++◌, Option, Some, None, refl, sym, ap, subst, arith, ◌∙◌, inl, inr}
-use Rattle.std.specs.Prelude.{reverse, nat_eq, codes, ◌||◌, ◌↔◌}
-use Rattle.std.specs.Option.{option_map, option_and_then}
+use Rattle.pg_san.proofs.Common.{◌≡◌, ℕ, ◌⊎◌, Bool, true, false, cond, List, [], ◌∷◌, ◌++◌, Option, Some, None, refl, sym, ap, subst, arith, ◌∙◌, inl, inr, reverse, nat_eq, codes, ◌||◌, ◌↔◌, option_map, option_and_then, nat_tests, reverse-reverse, Wing, KingSide, QueenSide, Core, Form, Castles, Moves, Said, core_of, castling_of, form_by, form_of, without_mark, without_marks, without_plus, without_check, byte_in, ep_in, dots_in, passing_by, passing_in, said_of, IsFormText, IsPassingText, IsCheckText, IsMark, IsMarksText, IsSaidText}
 use Rattle.std.specs.Str.{bytes_eq}
-use Rattle.std.proofs.lemmas.Bool.Decides.{nat_tests}
 use Rattle.std.proofs.lemmas.Slice.Eq.{bytes_eq-Decides}
-use Rattle.std.proofs.lemmas.List.{reverse-reverse}
-use Rattle.pg_position.specs.declared.rights.Wing.{Wing}
-use Rattle.pg_position.specs.declared.rights.Wing.TheVariants.{KingSide, QueenSide}
-use Rattle.pg_san.specs.declared.cores.Core.{Core}
-use Rattle.pg_san.specs.declared.said.Form.{Form}
-use Rattle.pg_san.specs.declared.said.Form.TheVariants.{Castles, Moves}
-use Rattle.pg_san.specs.declared.said.Said.{Said}
-use Rattle.pg_san.specs.CoreText.{core_of}
-use Rattle.pg_san.specs.Said.{castling_of, form_by, form_of, without_mark, without_marks, without_plus, without_check, byte_in, ep_in, dots_in, passing_by, passing_in, said_of}
-use Rattle.pg_san.specs.Grammar.{IsFormText, IsPassingText, IsCheckText, IsMark, IsMarksText, IsSaidText}
 use Rattle.pg_san.proofs.EndLemmas.{reversed_whole, said_again}
 use Rattle.pg_san.proofs.FoundLemmas.{core_found}
 

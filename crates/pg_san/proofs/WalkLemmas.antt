@@ -1,20 +1,6 @@
 -- The walk from square to square of those that the move which a text names may leave.
-use Rattle.std.proofs.Common.{◌≡◌, ◌≢◌, ℕ, ◌+◌, ◌<◌, ◌≤◌, Some, List, true, false, sym, ap, subst, arith, ◌∙◌, inl, inr}
-use Rattle.std.specs.Prelude.{Result, Ok, Err}
-use Rattle.std.proofs.lemmas.Bool.{cases_lt}
-use Rattle.pg_board.specs.Bits.{has}
-use Rattle.pg_board.specs.SquareSets.{HasNoneFrom, IsFirstFrom}
-use Rattle.pg_position.specs.declared.state.State.{State}
-use Rattle.pg_position.specs.declared.moves.Move.{Move}
-use Rattle.pg_position.specs.Step.{IsLegal}
-use Rattle.pg_moves.proofs.ListLemmas.{on_board}
-use Rattle.pg_san.specs.declared.fault.SanFault.{SanFault}
-use Rattle.pg_san.specs.declared.fault.SanFault.TheVariants.{Shape, NoSuchMove, Ambiguous}
+use Rattle.pg_san.proofs.Common.{◌≡◌, ◌≢◌, ℕ, ◌+◌, ◌<◌, ◌≤◌, Some, List, true, false, sym, ap, subst, arith, ◌∙◌, inl, inr, Result, Ok, Err, cases_lt, has, HasNoneFrom, IsFirstFrom, State, Move, IsLegal, on_board, SanFault, Shape, NoSuchMove, Ambiguous, Said, said_of, Fits, Matches, HoldsSources, NoneLeaves, IsFoundAt, NoneFits, IsFirstFit, IsSaidReading, IsTextReading}
 use Rattle.pg_san.specs.declared.reading.Found.{Found}
-use Rattle.pg_san.specs.declared.said.Said.{Said}
-use Rattle.pg_san.specs.Said.{said_of}
-use Rattle.pg_san.specs.Matching.{Fits, Matches}
-use Rattle.pg_san.specs.inner.Walk.{HoldsSources, NoneLeaves, IsFoundAt, NoneFits, IsFirstFit, IsSaidReading, IsTextReading}
 use Rattle.pg_san.proofs.EndLemmas.{said_again}
 use Rattle.pg_san.proofs.TextFoundLemmas.{said_found}
 

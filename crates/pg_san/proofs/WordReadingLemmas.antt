@@ -1,15 +1,5 @@
 -- The words of a line are read one at a time.
-use Rattle.std.proofs.Common.{◌≡◌, ◌≢◌, Bool, true, ℕ, ◌+◌, ◌<◌, inl, inr, List, [], ◌∷◌, ◌++◌, length, refl, sym, ap, subst, arith, ◌∙◌, append_assoc}
-use Rattle.std.specs.Prelude.{Ok, Err}
-use Rattle.std.proofs.lemmas.List.{append-nil, length-append}
-use Rattle.pg_position.specs.declared.state.State.{State}
-use Rattle.pg_position.specs.declared.moves.Move.{Move}
-use Rattle.pg_position.specs.Array.{array_state}
-use Rattle.pg_position.specs.Step.{Legal}
-use Rattle.pg_san.specs.declared.fault.SanFault.{SanFault}
-use Rattle.pg_san.specs.GameText.{without_move_number}
-use Rattle.pg_san.specs.Matching.{IsReading}
-use Rattle.pg_san.specs.Listing.{Spells, AreGame, IsBadWord}
+use Rattle.pg_san.proofs.Common.{◌≡◌, ◌≢◌, Bool, true, ℕ, ◌+◌, ◌<◌, inl, inr, List, [], ◌∷◌, ◌++◌, length, refl, sym, ap, subst, arith, ◌∙◌, append_assoc, Ok, Err, append-nil, length-append, State, Move, array_state, Legal, SanFault, without_move_number, IsReading, Spells, AreGame, IsBadWord}
 
 -- the words so far are these moves and lead here, and the others are left
 pub record IsSpelled (all : List (List ℕ)) (left : List (List ℕ)) (moves : List Move) (here : State) : Type 0 where

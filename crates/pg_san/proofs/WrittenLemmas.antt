@@ -1,14 +1,6 @@
 -- Texts that are kept are true, and are what writing gives.
-use Rattle.std.proofs.Common.{◌≡◌, ℕ, ◌<◌, true, false, List, length, get_or, set, sym, subst, ◌∙◌}
-use Rattle.std.specs.Prelude.{All}
-use Rattle.std.proofs.lemmas.List.{get_or_default}
-use Rattle.std.proofs.lemmas.List.Elements.{All-set}
-use Rattle.pg_position.specs.declared.state.State.{State}
-use Rattle.pg_position.specs.declared.moves.Move.{Move}
-use Rattle.pg_position.specs.Step.{Legal}
+use Rattle.pg_san.proofs.Common.{◌≡◌, ℕ, ◌<◌, true, false, List, length, get_or, set, sym, subst, ◌∙◌, All, get_or_default, All-set, State, Move, Legal, IsSan, IsWritten}
 use Rattle.pg_san.specs.declared.written.Written.{Written}
-use Rattle.pg_san.specs.Writing.{IsSan}
-use Rattle.pg_san.specs.KnownTexts.{IsWritten}
 
 pub untold : (w : Written) → w.told ≡ false → IsWritten w
 unfolding IsWritten

@@ -1,9 +1,5 @@
 -- The text of a board grows by a square and by a rank. Leads to the contract of `write_board`.
-use Rattle.std.proofs.Common.{◌≡◌, ℕ, ◌+◌, ◌-◌, ◌*◌, List, [], ◌∷◌, Option, sym, subst, add-one}
-use Rattle.std.proofs.KnownBytes.{Appends-nil, Appends-trans}
-use Rattle.std.specs.Io.KnownBytes.{Appends}
-use Rattle.pg_board.specs.Placement.{Placement, get}
-use Rattle.pg_texts.specs.BoardText.{cell_of, squares_text, rank_line, upper_lines}
+use Rattle.pg_texts.proofs.Common.{◌≡◌, ℕ, ◌+◌, ◌-◌, ◌*◌, List, [], ◌∷◌, Option, sym, subst, add-one, Appends-nil, Appends-trans, Appends, Placement, get, cell_of, squares_text, rank_line, upper_lines}
 
 pub no_cells : (b : Placement) (r : ℕ) (held : Option (List ℕ)) → Appends held held (squares_text b r 0)
 unfolding squares_text

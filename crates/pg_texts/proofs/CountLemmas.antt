@@ -1,6 +1,5 @@
 -- How many plies are counted. Leads to the contract of `run_count_watched`.
-use Rattle.std.proofs.Common.{◌≡◌, ℕ, ◌<◌, ◌≤◌, Result, Ok, Err, subst, arith}
-use Rattle.std.specs.Prelude.{OnErr}
+use Rattle.pg_texts.proofs.Common.{◌≡◌, ℕ, ◌<◌, ◌≤◌, Result, Ok, Err, subst, arith, OnErr}
 
 -- at most 8 plies, where more are refused
 pub few : {A E : Type 0} (plies : ℕ) (a : A) (e : E) → (8 < plies → Ok a ≡ Err e) → plies ≤ 8

@@ -1,10 +1,5 @@
 -- The texts of several things grow by that of one thing more.
-use Rattle.std.proofs.Common.{◌≡◌, ℕ, ◌+◌, ◌<◌, ◌≤◌, List, [], ◌∷◌, ◌++◌, Option, Some, length, take, refl, sym, ap, subst, append_assoc, append-nil, ◌∙◌}
-use Rattle.std.specs.Prelude.{slice_get}
-use Rattle.std.proofs.KnownBytes.{Appends-nil, Appends-trans}
-use Rattle.std.proofs.lemmas.List.{take_more, take_all}
-use Rattle.std.proofs.lemmas.Option.{get_or_from_slice_get}
-use Rattle.pg_certificate.specs.Pushing.{AddsSome}
+use Rattle.pg_texts.proofs.Common.{◌≡◌, ℕ, ◌+◌, ◌<◌, ◌≤◌, List, [], ◌∷◌, ◌++◌, Option, Some, length, take, refl, sym, ap, subst, append_assoc, append-nil, ◌∙◌, slice_get, Appends-nil, Appends-trans, take_more, take_all, get_or_from_slice_get, AddsSome}
 use Rattle.pg_texts.specs.Items.{AreTexts}
 
 texts_more : {X : Type 0} (Is : X → List ℕ → Type 0) (xs : List X) (x : X) (text one : List ℕ) → AreTexts Is xs text → Is x one → AreTexts Is (xs ++ x ∷ []) (text ++ one)

@@ -1,3 +1,4 @@
+mod Common
 pub mod MoveLineLemmas
 pub mod CountLemmas
 pub mod OutcomeLemmas

@@ -1,13 +1,5 @@
 -- The lines of a list of moves grow by the line of one move more. Leads to the contract of writing a list of moves.
-use Rattle.std.proofs.Common.{◌≡◌, ℕ, ◌+◌, ◌<◌, ◌≤◌, List, [], ◌∷◌, ◌++◌, Option, length, get_or, take, refl, sym, ap, subst, append_assoc, ◌∙◌}
-use Rattle.std.proofs.KnownBytes.{Appends-nil, Appends-trans}
-use Rattle.std.proofs.lemmas.List.{take_more, take_all}
-use Rattle.pg_certificate.specs.Pushing.{AddsSome}
-use Rattle.pg_position.specs.declared.state.State.{State}
-use Rattle.pg_position.specs.declared.moves.Move.{Move}
-use Rattle.pg_san.specs.Writing.{IsSan}
-use Rattle.pg_texts.specs.MovesText.{AreMoveLines}
-use Rattle.pg_texts.specs.Report.{AddsLine}
+use Rattle.pg_texts.proofs.Common.{◌≡◌, ℕ, ◌+◌, ◌<◌, ◌≤◌, List, [], ◌∷◌, ◌++◌, Option, length, get_or, take, refl, sym, ap, subst, append_assoc, ◌∙◌, Appends-nil, Appends-trans, take_more, take_all, AddsSome, State, Move, IsSan, AreMoveLines, AddsLine}
 
 lines_more : (p : State) (ms : List Move) (m : Move) (text line : List ℕ) → AreMoveLines p ms text → IsSan p m line → AreMoveLines p (ms ++ m ∷ []) (text ++ (line ++ 10 ∷ []))
 unfolding AreMoveLines

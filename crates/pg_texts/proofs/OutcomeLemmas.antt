@@ -1,5 +1,5 @@
 -- What is said of an Ok alone, from what else is said of it.
-use Rattle.std.specs.Prelude.{Result, Ok, Err, OnOk}
+use Rattle.pg_texts.proofs.Common.{Result, Ok, Err, OnOk}
 
 pub on_ok : {A E : Type 0} (r : Result A E) (P Q : Type 0) → (P → Q) → OnOk r P → OnOk r Q
 on_ok (Ok a) P Q f h = f h

@@ -1,23 +1,11 @@
 -- The text of a game grows by one ply more, and stops where a move is not legal. Leads to the contracts of movetext.
-use Rattle.std.proofs.Common.{◌≡◌, ℕ, suc, ◌+◌, ◌<◌, ◌≤◌, inl, inr, List, [], ◌∷◌, ◌++◌, Option, length, get_or, take, drop, refl, sym, ap, subst, arith, append_assoc, append-nil, length-append, ◌∙◌}
-use Rattle.std.proofs.KnownBytes.{Appends-nil, Appends-trans}
-use Rattle.std.proofs.lemmas.List.{take_more, take_all, take-append-drop, length-take-le, nil_from_length}
+use Rattle.pg_texts.proofs.Common.{◌≡◌, ℕ, suc, ◌+◌, ◌<◌, ◌≤◌, inl, inr, List, [], ◌∷◌, ◌++◌, Option, length, get_or, take, drop, refl, sym, ap, subst, arith, append_assoc, append-nil, length-append, ◌∙◌, Appends-nil, Appends-trans, take_more, take_all, take-append-drop, length-take-le, nil_from_length, codes, Appends, AddsSome, State, Move, IsPosition, IsFromArray, IsSan, AddsLongest, space_text, number_text, ArePlies, IsMovetext, IsLongestGame, AddsPlies, AddsAllPlies, AddsPly, Stops, IsPlayedOut}
 use Rattle.std.proofs.Math.Seq.{drop-cons}
-use Rattle.std.specs.Prelude.{codes}
-use Rattle.std.specs.Io.KnownBytes.{Appends}
-use Rattle.pg_certificate.specs.Pushing.{AddsSome}
-use Rattle.pg_position.specs.declared.state.State.{State}
-use Rattle.pg_position.specs.declared.moves.Move.{Move}
 use Rattle.pg_position.specs.Array.{array_state}
 use Rattle.pg_position.specs.Game.{IsGame}
-use Rattle.pg_position.specs.Position.{IsPosition}
 use Rattle.pg_position.specs.Step.{Legal, IsLegal}
 use Rattle.pg_position.proofs.ArrayLemmas.{array_position}
 use Rattle.pg_position.proofs.FutureLemmas.{one_result, legal_position}
-use Rattle.pg_san.specs.Games.{IsFromArray}
-use Rattle.pg_san.specs.Writing.{IsSan}
-use Rattle.pg_texts.specs.Movetext.{AddsLongest, space_text, number_text, ArePlies, IsMovetext, IsLongestGame}
-use Rattle.pg_texts.specs.inner.Plies.{AddsPlies, AddsAllPlies, AddsPly, Stops, IsPlayedOut}
 
 -- ---- one ply
 around : (front number san rest more : List ℕ) → (front ++ (number ++ (san ++ rest))) ++ more ≡ front ++ (number ++ (san ++ (rest ++ more)))

@@ -1,19 +1,8 @@
 -- The lines of a list of games grow by the line of one game more, and the parts of a report make it. Leads to the contract of
 -- `write_report`.
-use Rattle.std.proofs.Common.{◌≡◌, ℕ, ◌+◌, ◌<◌, ◌≤◌, List, [], ◌∷◌, ◌++◌, Option, Some, length, get_or, take, refl, sym, ap, subst, append_assoc, ◌∙◌}
-use Rattle.std.specs.Prelude.{slice_get, codes, decimal}
-use Rattle.std.proofs.KnownBytes.{Appends-nil, Appends-trans}
-use Rattle.std.proofs.lemmas.List.{take_more, take_all}
-use Rattle.std.proofs.lemmas.Option.{get_or_from_slice_get}
-use Rattle.std.specs.Io.KnownBytes.{Appends}
-use Rattle.pg_certificate.specs.Pushing.{AddsSome}
-use Rattle.pg_board.specs.Placement.{Placement}
-use Rattle.pg_position.specs.declared.moves.Move.{Move}
-use Rattle.pg_san.specs.Games.{IsFromArray, IsGames}
-use Rattle.pg_texts.specs.Movetext.{IsMovetext}
+use Rattle.pg_texts.proofs.Common.{◌≡◌, ℕ, ◌+◌, ◌<◌, ◌≤◌, List, [], ◌∷◌, ◌++◌, Option, Some, length, get_or, take, refl, sym, ap, subst, append_assoc, ◌∙◌, slice_get, codes, decimal, Appends-nil, Appends-trans, take_more, take_all, get_or_from_slice_get, Appends, AddsSome, Placement, Move, IsFromArray, IsGames, IsMovetext, AddsLine, IsVerdict, IsReport, AreGameLines, line_text, labelled_text, verdict_text, head_text}
 use Rattle.pg_fen.specs.PlacementText.{placement_text}
 use Rattle.pg_fen.specs.Lengths.{length_text}
-use Rattle.pg_texts.specs.Report.{AddsLine, IsVerdict, IsReport, AreGameLines, line_text, labelled_text, verdict_text, head_text}
 use Rattle.pg_texts.specs.declared.verdict.Verdict.{Verdict}
 
 pub game_line : (game : List Move) (a b c : Option (List ℕ)) → AddsSome (IsMovetext game) a b → Appends b c (10 ∷ []) → AddsLine (IsMovetext game) a c

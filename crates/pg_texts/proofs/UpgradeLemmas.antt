@@ -1,23 +1,15 @@
 -- Records copied one after the other, and what reading the bytes says of them. Leads to the contract of `upgrade`.
-use Rattle.std.proofs.Common.{◌≡◌, ℕ, zero, suc, ◌+◌, ◌*◌, ◌-◌, ◌<◌, ◌≤◌, Bool, true, false, List, [], ◌∷◌, ◌++◌, length, Option, Some, None, IfSome, Result, Ok, Err, refl, sym, ap, subst, ◌∙◌, append_assoc, append-nil, arith, All}
-use Rattle.std.proofs.KnownBytes.{Appends-kept, Appends-trans, Consumes-trans, Consumes-kept}
+use Rattle.pg_texts.proofs.Common.{◌≡◌, ℕ, zero, suc, ◌+◌, ◌*◌, ◌-◌, ◌<◌, ◌≤◌, Bool, true, false, List, [], ◌∷◌, ◌++◌, length, Option, Some, None, IfSome, Result, Ok, Err, refl, sym, ap, subst, ◌∙◌, append_assoc, append-nil, arith, All, Appends-kept, Appends-trans, Consumes-trans, Consumes-kept, length-append, flat_map, Consumes, Appends, Keeps, IsAtEnd, prepend_known, append_known, more_at, record_at, Leaves, spelling, header_spelling, longest_record, IsHeader, color_byte, expand_byte, prices_spelling, IsRecordOf, CopiesOne, Copies, one_in}
 use Rattle.std.proofs.lemmas.Grind.{flat_map-append}
-use Rattle.std.proofs.lemmas.List.{length-append}
 use Rattle.std.proofs.lemmas.List.Elements.{All-nil, All-cons, All-head, All-tail, All-append}
 use Rattle.std.specs.Int.{w32, to_be_bytes}
-use Rattle.std.specs.List.{flat_map}
-use Rattle.std.specs.Io.KnownBytes.{Consumes, Appends, Keeps, IsAtEnd, prepend_known, append_known}
 use Rattle.pg_certificate.specs.declared.fault.ReadFault.{ReadFault}
 use Rattle.pg_certificate.specs.declared.record.Header.{Header}
 use Rattle.pg_certificate.specs.declared.record.Record.{Record}
 use Rattle.pg_certificate.specs.declared.record.Record.TheVariants.{Expand, Cut, Ref, Priced}
-use Rattle.pg_certificate.specs.Reading.{more_at, record_at}
-use Rattle.pg_certificate.specs.Reader.{Leaves}
-use Rattle.pg_certificate.specs.Spelling.{spelling, header_spelling, longest_record, IsHeader, color_byte, expand_byte, prices_spelling, IsRecordOf}
 use Rattle.pg_certificate.proofs.RecordLaws.{records_again, none_longer}
 use Rattle.pg_texts.specs.declared.fault.UpgradeFault.{UpgradeFault}
 use Rattle.pg_texts.specs.declared.fault.UpgradeFault.TheVariants.{Truncated, NotVersion1, UnknownRecord, Read, Budget, Write}
-use Rattle.pg_texts.specs.inner.Copying.{CopiesOne, Copies, one_in}
 use Rattle.pg_texts.specs.Upgrade.{◌>>=◌, Certificate1, certificate_bytes, with_digit_2, IsUpgraded, one_more, records_in, IsUpgradeFault, Takes}
 
 abbrev pub Counted : Type 0

@@ -1,22 +1,6 @@
 -- The lines of a bill, one man after the other, and the least cost by a bill.
-use Rattle.std.proofs.Common.{◌≡◌, ◌≢◌, ℕ, ◌+◌, ◌*◌, ◌<◌, ◌≤◌, inl, inr, Option, Some, None, List, [], length, get_or, set, sym, ap, subst, arith, ◌∙◌}
-use Rattle.std.proofs.lemmas.List.{get_or-set_same, get_or-set_other}
-use Rattle.std.proofs.lemmas.Bool.Decides.{eqb_tells}
-use Rattle.pg_board.specs.Placement.{Placement}
-use Rattle.pg_board.specs.Tally.{total}
-use Rattle.pg_board.specs.lemmas.Sums.{total_same}
-use Rattle.pg_position.specs.declared.rights.Wing.{Wing}
-use Rattle.pg_position.specs.declared.state.State.{State}
-use Rattle.pg_captures.specs.Counting.{men, any_man}
-use Rattle.pg_travel.specs.Origins.{charge}
-use Rattle.pg_assignments.specs.Assignments.{cost, Below, IsTotal, IsLeast, IsLeastTotal}
-use Rattle.pg_journeys.specs.PlanCosts.{IsListing}
-use Rattle.pg_journeys.specs.inner.Sides.{square_at}
-use Rattle.pg_tolls.specs.inner.Values.{cost_at, least_of, marks_for}
-use Rattle.pg_tolls.specs.inner.Bills.{costs_of, IsReduced, AreReduced, IsPartyOf, IsLineOf, HasLine, IsBillOf, IsCostBy, cost_of_man, least_of_man}
-use Rattle.pg_tolls.specs.declared.half.Half.{Half}
-use Rattle.pg_tolls.specs.declared.bills.Party.{Party}
-use Rattle.pg_tolls.specs.declared.bills.Bill.{Bill}
+use Rattle.pg_tolls.proofs.Common.{◌≡◌, ◌≢◌, ℕ, ◌+◌, ◌*◌, ◌<◌, ◌≤◌, inl, inr, Option, Some, None, List, [], length, get_or, set, sym, ap, subst, arith, ◌∙◌, get_or-set_same, get_or-set_other, eqb_tells, Placement, total, total_same, Wing, State, men, any_man, charge, cost, Below, IsTotal, IsLeastTotal, IsListing, square_at, cost_at, least_of, marks_for, costs_of, IsReduced, AreReduced, IsPartyOf, IsLineOf, HasLine, IsBillOf, IsCostBy, cost_of_man, least_of_man, Half, Party, Bill}
+use Rattle.pg_assignments.specs.Assignments.{IsLeast}
 use Rattle.pg_tolls.proofs.LeastLemmas.{least_same, least_past}
 use Rattle.pg_tolls.proofs.Parties.{to_total, of_total, none_by_way, least_by_way}
 

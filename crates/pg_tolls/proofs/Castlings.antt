@@ -1,17 +1,5 @@
 -- The bill of a castling, one man after the other.
-use Rattle.std.proofs.Common.{◌≡◌, ◌≢◌, ℕ, ◌+◌, ◌<◌, ◌≤◌, inl, inr, Option, Some, None, List, [], length, nat_eq, false, get_or, set, refl, sym, ap, subst, arith, ◌∙◌}
-use Rattle.std.proofs.Math.ListN.{length-set}
-use Rattle.std.proofs.lemmas.List.{get_or-set_same, get_or-set_other}
-use Rattle.std.proofs.lemmas.Bool.Decides.{eqb_tells}
-use Rattle.pg_position.specs.declared.rights.Wing.{Wing}
-use Rattle.pg_position.specs.declared.state.State.{State}
-use Rattle.pg_position.specs.Squares.{king_home, rook_home}
-use Rattle.pg_journeys.specs.inner.Sides.{square_at}
-use Rattle.pg_tolls.specs.inner.Bills.{IsPartyOf, IsBillOf, IsLineOf, HasLine, AreSpared, IsSparedAt, HasSpared}
-use Rattle.pg_tolls.specs.declared.half.Half.{Half}
-use Rattle.pg_tolls.specs.declared.bills.Party.{Party}
-use Rattle.pg_tolls.specs.declared.bills.Bill.{Bill}
-use Rattle.pg_tolls.specs.declared.bills.Castled.{Castled}
+use Rattle.pg_tolls.proofs.Common.{◌≡◌, ◌≢◌, ℕ, ◌+◌, ◌<◌, ◌≤◌, inl, inr, Option, Some, None, List, [], length, nat_eq, false, get_or, set, refl, sym, ap, subst, arith, ◌∙◌, length-set, get_or-set_same, get_or-set_other, eqb_tells, Wing, State, king_home, rook_home, square_at, IsPartyOf, IsBillOf, IsLineOf, HasLine, AreSpared, IsSparedAt, HasSpared, Half, Party, Bill, Castled}
 use Rattle.pg_tolls.proofs.Billing.{lines_next, lines_same}
 use Rattle.pg_tolls.proofs.HalfRows.{same_line}
 

@@ -1,5 +1,5 @@
 -- A least number, and none.
-use Rattle.std.proofs.Common.{◌≡◌, ℕ, ◌≤◌, Option, Some, None, subst}
+use Rattle.pg_tolls.proofs.Common.{◌≡◌, ℕ, ◌≤◌, Option, Some, None, subst}
 use Rattle.pg_assignments.specs.Assignments.{IsLeast}
 
 pub none_is : (T : ℕ → Type 0) (o : Option ℕ) → o ≡ None → IsLeast T o → (v : ℕ) → T v → ⊥

@@ -1,23 +1,7 @@
 -- What shows that a table is closed. Leads to the contracts of closed.
-use Rattle.std.proofs.Common.{◌≡◌, ◌≢◌, ℕ, suc, ◌+◌, ◌<◌, ◌≤◌, true, false, not, List, [], get_or, set, min, inl, inr, refl, sym, ap, subst, arith, ◌∙◌}
-use Rattle.std.proofs.lemmas.Bool.Decides.{eqb_tells}
-use Rattle.pg_board.specs.Bits.{has}
-use Rattle.pg_board.specs.declared.man.Color.{Color}
-use Rattle.pg_board.specs.declared.man.Kind.{Kind}
-use Rattle.pg_board.specs.declared.man.Kind.TheVariants.{Pawn, Knight, Bishop, Rook, Queen, King}
-use Rattle.pg_board.specs.Men.{other}
-use Rattle.pg_board.specs.Squares.{file}
-use Rattle.pg_board.specs.SquareSets.{IsSetOf}
-use Rattle.pg_captures.specs.FreeSteps.{Becomes}
-use Rattle.pg_journeys.specs.Facts.{Facts}
-use Rattle.pg_journeys.specs.Journeys.{Leg, IsLeg, may_take}
-use Rattle.pg_journeys.specs.lemmas.Turns.{leg}
-use Rattle.pg_journeys.specs.inner.Grounds.{LedTo, Pushes, Captures}
-use Rattle.pg_journeys.specs.declared.men.Men.{Men}
-use Rattle.pg_tolls.specs.Tariffs.{Tariff}
+use Rattle.pg_tolls.proofs.Common.{◌≡◌, ◌≢◌, ℕ, suc, ◌+◌, ◌<◌, ◌≤◌, true, false, not, List, [], get_or, set, min, inl, inr, refl, sym, ap, subst, arith, ◌∙◌, eqb_tells, has, Color, Kind, Pawn, Knight, Bishop, Rook, Queen, King, other, file, IsSetOf, Becomes, Facts, Leg, IsLeg, may_take, leg, LedTo, Pushes, Captures, Men, Tariff, entry, raised, IsWithin, IsClosed, nth, cell, AreGrown, AreLesser, AreAtMost, ArePieceSteps, ArePawnSteps, IsPieceClosed, IsPawnClosed, AreStepsClosed, AreFalls, AreAllFalls, IsLayer, AreLayers, HasLowTolls, stays_kind}
 use Rattle.pg_tolls.specs.Marks.{IsMark}
-use Rattle.pg_tolls.specs.inner.Tables.{entry, raised, IsWithin, IsClosed}
-use Rattle.pg_tolls.specs.inner.Closing.{nth, cell, AreGrown, AreLesser, AreAtMost, IsLeast, ArePieceSteps, ArePawnSteps, IsPieceClosed, IsPawnClosed, AreStepsClosed, AreFalls, AreAllFalls, IsLayer, AreLayers, HasLowTolls}
+use Rattle.pg_tolls.specs.inner.Closing.{IsLeast}
 use Rattle.pg_tolls.proofs.RowLemmas.{step_within, within_behind}
 
 -- ---- a piece's steps
@@ -109,16 +93,6 @@ falls_of t f c table j Rook h ne = h.rook
 falls_of t f c table j Queen h ne = h.queen
 falls_of t f c table j King h ne = absurd (ne refl)
 
--- a piece stays what he is
-stays : (c : Color) (k j : Kind) (s : ℕ) → k ≢ Pawn → Becomes c k s j → j ≡ k
-unfolding Becomes
-stays c Pawn j s ne b = absurd (ne refl)
-stays c Knight j s ne b = b
-stays c Bishop j s ne b = b
-stays c Rook j s ne b = b
-stays c Queen j s ne b = b
-stays c King j s ne b = b
-
 -- a pawn's number is at most that of what he is where he comes to
 pawn_into : (t : Tariff) (f : Facts) (c : Color) (table : List (List ℕ)) (i : ℕ) (k : Kind) (s e : ℕ) → IsPawnClosed t f c table i → s < 64 → e < 16 → Becomes c Pawn s k → entry table i Pawn s e ≤ entry table i k s e
 unfolding Becomes
@@ -157,7 +131,7 @@ plain_pawn t f c table j r k s e h le l m =
 plain_piece : (t : Tariff) (f : Facts) (c : Color) (table : List (List ℕ)) (j : ℕ) (k : Kind) (r : ℕ) (i : Kind) (s e : ℕ) → k ≢ Pawn → AreStepsClosed t f c table j → e < 16 → IsLeg f c (leg k r i s) →
     IsWithin (entry table j k r e) (entry table j i s e) (t.weight c)
 plain_piece t f c table j k r i s e ne h le l =
-    let same : i ≡ k = stays c k i s ne l.free.3 in
+    let same : i ≡ k = stays_kind c k i s ne l.free.3 in
     subst (λ (x : Kind). IsWithin (entry table j k r e) (entry table j x s e) (t.weight c)) (sym same)
     ((piece_of t f c table j k h ne).plain r s e l.free.0 l.free.1 le (subst (λ (x : Kind). IsLeg f c (leg k r x s)) same l))
 
@@ -180,7 +154,7 @@ take_pawn t f c table j r k s e h behind le l m =
 take_piece : (t : Tariff) (f : Facts) (c : Color) (table : List (List ℕ)) (j : ℕ) (k : Kind) (r : ℕ) (i : Kind) (s e : ℕ) → k ≢ Pawn → AreStepsClosed t f c table (suc j) → e < 16 → IsLeg f c (leg k r i s) →
     IsWithin (entry table (suc j) k r e) (entry table j i s e) (t.weight c + raised t c s)
 take_piece t f c table j k r i s e ne h le l =
-    let same : i ≡ k = stays c k i s ne l.free.3 in
+    let same : i ≡ k = stays_kind c k i s ne l.free.3 in
     subst (λ (x : Kind). IsWithin (entry table (suc j) k r e) (entry table j x s e) (t.weight c + raised t c s)) (sym same)
     ((piece_of t f c table (suc j) k h ne).take j r s e refl l.free.0 l.free.1 le (subst (λ (x : Kind). IsLeg f c (leg k r x s)) same l))
 

@@ -1,32 +1,8 @@
 -- What keeps rows above closed numbers while they are filled. Leads to the contracts of filling.
-use Rattle.std.proofs.Common.{◌≡◌, ◌≢◌, ℕ, suc, ◌+◌, ◌*◌, ◌-◌, ◌<◌, ◌≤◌, Bool, true, false, cond, List, [], ◌++◌, length, get_or, set, replicate, min, inl, inr, refl, sym, ap, subst, arith, ltb, lt-ltb, le-ltb, ◌∙◌}
-use Rattle.std.proofs.lemmas.Bool.{cases_Bool, ltb-true, ltb-false}
-use Rattle.std.proofs.lemmas.Bool.Decides.{eqb_tells}
-use Rattle.std.proofs.lemmas.Simd.{get_or-replicate}
-use Rattle.std.proofs.lemmas.List.{get_or-set_same, get_or-set_other, set_past, get_or_append_left, get_or-append_right, length-append}
-use Rattle.pg_board.specs.Bits.{has}
-use Rattle.pg_board.specs.declared.man.Color.{Color}
-use Rattle.pg_board.specs.declared.man.Kind.{Kind}
-use Rattle.pg_board.specs.declared.man.Kind.TheVariants.{Pawn, Knight, Bishop, Rook, Queen, King}
-use Rattle.pg_board.specs.Men.{number_of_kind, kind_eq, other}
-use Rattle.pg_board.specs.SquareSets.{IsSetOf, IsFirstFrom}
-use Rattle.pg_position.specs.Geometry.{OnOneLine, InPattern}
+use Rattle.pg_tolls.proofs.Common.{◌≡◌, ◌≢◌, ℕ, suc, ◌+◌, ◌*◌, ◌-◌, ◌<◌, ◌≤◌, Bool, true, false, cond, List, [], ◌++◌, length, get_or, set, replicate, min, inl, inr, refl, sym, ap, subst, arith, ltb, lt-ltb, le-ltb, ◌∙◌, cases_Bool, ltb-true, ltb-false, eqb_tells, get_or-replicate, get_or-set_same, get_or-set_other, set_past, get_or_append_left, get_or-append_right, length-append, has, Color, Kind, Pawn, Knight, Bishop, Rook, Queen, King, number_of_kind, kind_eq, other, IsSetOf, IsFirstFrom, AreAll, IsWithout, all_left, Facts, IsLeg, leg, LedTo, Pushes, Captures, square_at, kind_at, Men, Tariff, entry, raised, IsWithin, nth, cell, grown_by, AreGrown, AreLesser, AreTaken, IsNoLess, HasLowTolls, Numbers, AreNumbers, AreBelow, AreWithinPushes, AreWithinCaptures, IsOffer, AreLeftOver, AreClosedAt, AreClosedTo, AreHigh, KeepsSteps, KeepsTakes, KeepsPawns, KeepsPromoted, KeepsEnds, AreBlank, IsOver, IsHigh, AreLong, with_layer, AreHighest, leg_turn, kind_is}
 use Rattle.pg_position.specs.Step.{IsPiece}
-use Rattle.pg_position.proofs.ReachLemmas.{between_turn}
-use Rattle.pg_captures.specs.FreeSteps.{StepsTo, Becomes, FreeStep}
-use Rattle.pg_travel.proofs.RowTables.{kind_low, same_kind}
-use Rattle.pg_travel.proofs.TakenSets.{AreAll, IsWithout, all_left}
-use Rattle.pg_journeys.specs.Facts.{Facts}
-use Rattle.pg_journeys.specs.Journeys.{IsLeg}
-use Rattle.pg_journeys.specs.lemmas.Turns.{leg}
-use Rattle.pg_journeys.specs.inner.Grounds.{LedTo, Pushes, Captures}
-use Rattle.pg_journeys.specs.inner.Sides.{square_at, kind_at}
-use Rattle.pg_journeys.specs.declared.men.Men.{Men}
-use Rattle.pg_tolls.specs.Tariffs.{Tariff}
-use Rattle.pg_tolls.specs.inner.Tables.{entry, raised, IsWithin}
-use Rattle.pg_tolls.specs.inner.Closing.{nth, cell, grown_by, AreGrown, AreLesser, AreTaken, IsNoLess, HasLowTolls}
+use Rattle.pg_travel.proofs.RowTables.{kind_low}
 use Rattle.pg_tolls.specs.declared.filling.Layer.{Layer}
-use Rattle.pg_tolls.specs.inner.Highest.{Numbers, AreNumbers, AreBelow, AreWithinPushes, AreWithinCaptures, IsOffer, AreLeftOver, AreClosedAt, AreClosedTo, AreHigh, KeepsSteps, KeepsTakes, KeepsPawns, KeepsPromoted, KeepsEnds, AreBlank, IsOver, IsHigh, AreLong, with_layer, AreHighest}
 
 -- ---- one number
 -- what is within one behind is at most what is grown from a number that is no lower
@@ -118,36 +94,6 @@ lowering_next Q P left rest square old now next is without step h = record {
 }
 
 -- ---- a piece steps back as he steps
-line_turn : (r s : ℕ) → OnOneLine r s → OnOneLine s r
-line_turn r s e = elim e [ inl x ↦ inl (sym x) | inr x ↦ inr (sym x) ]
-
-pattern_turn : (c : Color) (k : Kind) (r s : ℕ) → k ≢ Pawn → InPattern c k r s → InPattern c k s r
-unfolding InPattern
-pattern_turn c Pawn r s ne e = absurd (ne refl)
-pattern_turn c Knight r s ne e = elim e [ inl (x, y) ↦ inl (omega arith, omega arith) | inr (x, y) ↦ inr (omega arith, omega arith) ]
-pattern_turn c Bishop r s ne (n, e) = (omega arith, omega arith)
-pattern_turn c Rook r s ne (n, e) = (omega arith, line_turn r s e)
-pattern_turn c Queen r s ne (n, e) = (omega arith, elim e [ inl x ↦ inl (line_turn r s x) | inr x ↦ inr (omega arith) ])
-pattern_turn c King r s ne (n, x, y) = (omega arith, omega arith, omega arith)
-
-free_turn : (c : Color) (k : Kind) (r s : ℕ) → k ≢ Pawn → FreeStep c k r k s → FreeStep c k s k r
-unfolding StepsTo Becomes
-free_turn c Pawn r s ne e = absurd (ne refl)
-free_turn c Knight r s ne (x, y, z, b) = (y, x, pattern_turn c Knight r s ne z, refl)
-free_turn c Bishop r s ne (x, y, z, b) = (y, x, pattern_turn c Bishop r s ne z, refl)
-free_turn c Rook r s ne (x, y, z, b) = (y, x, pattern_turn c Rook r s ne z, refl)
-free_turn c Queen r s ne (x, y, z, b) = (y, x, pattern_turn c Queen r s ne z, refl)
-free_turn c King r s ne (x, y, z, b) = (y, x, pattern_turn c King r s ne z, refl)
-
-leg_turn : (f : Facts) (c : Color) (k : Kind) (r s : ℕ) → k ≢ Pawn → IsLeg f c (leg k r k s) → IsLeg f c (leg k s k r)
-leg_turn f c k r s ne is = record {
-  free = free_turn c k r s ne is.free;
-  leaves = is.comes;
-  comes = is.leaves;
-  between = λ t l b. is.between t l (between_turn s t r b);
-  lands = λ e _. absurd (ne e);
-}
-
 -- what is grown from a square's row is an offer to the squares from where a piece steps there
 steps_offer : (f : Facts) (c : Color) (k : Kind) (a b : ℕ → ℕ → ℕ) (square steps charge : ℕ) (row grown : List ℕ) → k ≢ Pawn → AreNumbers b → ((s e : ℕ) → s < 64 → e < 16 → IsLeg f c (leg k s k square) → IsWithin (b s e) (a square e) charge) →
     IsSetOf steps (λ s. IsLeg f c (leg k square k s)) → AreGrown row charge grown 16 → ((e : ℕ) → e < 16 → a square e ≤ nth row e) → IsOffer b steps grown
@@ -336,9 +282,6 @@ module _ (t : Tariff) (f : Facts) (c : Color) (goals : Men) (u : Numbers) where
   taken_within n h s q e ls lq le p = within_grown (u (suc n) Pawn s e) (u n Pawn q e) (raised t c q) (t.weight c) (h.captured n refl s q e ls lq le p) (h.numbers Pawn s e)
 
 -- ---- walks of no step
-kind_is : (a b : Kind) → kind_eq a b ≡ true → a ≡ b
-kind_is a b t = elim (eqb_tells (number_of_kind a) (number_of_kind b)) [ inl w ↦ same_kind a b w.1 | inr w ↦ absurd (let z : true ≡ false = sym t ∙ w.0 in cc) ]
-
 pub no_king : (k : Kind) → kind_eq k King ≡ false → k ≢ King
 no_king k f e = absurd (let z : kind_eq King King ≡ false = ap (λ (x : Kind). kind_eq x King) (sym e) ∙ f in let t : kind_eq King King ≡ true = refl in cc)
 

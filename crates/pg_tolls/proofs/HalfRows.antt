@@ -1,27 +1,5 @@
 -- The row of a man: from the table's, and what it costs him to be captured. A man whom a castling does not move.
-use Rattle.std.proofs.Common.{◌≡◌, ℕ, ◌<◌, ◌≤◌, Option, Some, None, Bool, true, false, cond, ltb, nat_eq, min, List, [], get_or, refl, sym, ap, subst, arith, ◌∙◌}
-use Rattle.std.proofs.lemmas.Bool.{lt-ltb, le-ltb}
-use Rattle.pg_board.specs.declared.man.Color.{Color}
-use Rattle.pg_board.specs.declared.man.Kind.{Kind}
-use Rattle.pg_board.specs.declared.man.Kind.TheVariants.{King}
-use Rattle.pg_board.specs.Men.{kind_eq}
-use Rattle.pg_position.specs.declared.rights.Wing.{Wing}
-use Rattle.pg_position.specs.declared.state.State.{State}
-use Rattle.pg_position.specs.Squares.{king_home, rook_home, king_target, king_crossed}
-use Rattle.pg_travel.specs.Origins.{counted}
-use Rattle.pg_journeys.specs.inner.Sides.{kind_at, square_at}
-use Rattle.pg_tolls.specs.inner.Tables.{entry}
-use Rattle.pg_tolls.specs.inner.Values.{kind_of, kind_on, by_passing, least_of}
-use Rattle.pg_tolls.specs.inner.Bills.{IsReduced, AreColumnsOf, IsPartyOf, HasLine, cost_of_man}
-use Rattle.pg_tolls.specs.declared.half.Half.{Half}
-use Rattle.pg_tolls.specs.declared.bills.Party.{Party}
-use Rattle.pg_tolls.specs.declared.bills.Bill.{Bill}
-
-taken : {A : Type 0} (b : Bool) (x y : A) → b ≡ true → cond b x y ≡ x
-taken b x y e = rw e refl
-
-passed_by : {A : Type 0} (b : Bool) (x y : A) → b ≡ false → cond b x y ≡ y
-passed_by b x y e = rw e refl
+use Rattle.pg_tolls.proofs.Common.{◌≡◌, ℕ, ◌<◌, ◌≤◌, Option, Some, None, false, cond, ltb, nat_eq, min, List, [], get_or, sym, ap, subst, arith, ◌∙◌, lt-ltb, le-ltb, Color, Kind, King, kind_eq, Wing, State, king_home, rook_home, king_target, king_crossed, counted, kind_at, square_at, entry, kind_of, kind_on, by_passing, least_of, IsReduced, AreColumnsOf, IsPartyOf, HasLine, cost_of_man, Half, Party, Bill, cond-true, cond-false}
 
 module _ (x : Half) (p : State) (m : Party) (way : Option Wing) (is : IsPartyOf x p m) (i : ℕ) where
   -- what the table says of him at an end
@@ -53,20 +31,20 @@ module _ (x : Half) (p : State) (m : Party) (way : Option Wing) (is : IsPartyOf 
     pub row_is : (e : ℕ) → i < m.men.count → e < m.men.count → m.men.count ≤ 16 → get_or all e 0 ≡ cost_of_man x p m way i e
     row_is e man column few =
         made x.goals.count m.men.count is.columns e (omega arith)
-        ∙ taken (ltb e m.men.count) _ _ (lt-ltb e m.men.count column)
+        ∙ cond-true (ltb e m.men.count) _ _ (lt-ltb e m.men.count column)
         ∙ ap (λ (n : ℕ). cond (ltb e x.goals.count) n fall) (table e)
         ∙ ap (cond (ltb e x.goals.count) (charged e)) (fall_is (get_or row 15 0) fall (table 15) low falls)
         ∙ sym (same_cost e man)
 
     pub row_past : (e : ℕ) → m.men.count ≤ e → e < 16 → get_or all e 0 ≡ 65535
-    row_past e column few = made x.goals.count m.men.count is.columns e few ∙ passed_by (ltb e m.men.count) _ _ (le-ltb e m.men.count column)
+    row_past e column few = made x.goals.count m.men.count is.columns e few ∙ cond-false (ltb e m.men.count) _ _ (le-ltb e m.men.count column)
 
 -- ---- a man whom a castling does not move
 module _ (x : Half) (p : State) (m : Party) (w : Wing) (b : Bill) (i : ℕ) where
   stays : (c : Color) (s : ℕ) → nat_eq s (king_home c) ≡ false → nat_eq s (rook_home c w) ≡ false → counted c None s ≡ counted c (Some w) s
   stays c s king rook =
-      sym (passed_by (nat_eq s (king_home c)) (king_target c w) (cond (nat_eq s (rook_home c w)) (king_crossed c w) s) king
-      ∙ passed_by (nat_eq s (rook_home c w)) (king_crossed c w) s rook)
+      sym (cond-false (nat_eq s (king_home c)) (king_target c w) (cond (nat_eq s (rook_home c w)) (king_crossed c w) s) king
+      ∙ cond-false (nat_eq s (rook_home c w)) (king_crossed c w) s rook)
 
   -- what he costs from a square
   abbrev from : ℕ → ℕ → ℕ

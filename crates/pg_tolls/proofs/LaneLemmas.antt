@@ -1,11 +1,8 @@
 -- Rows as vectors. Leads to the contracts of lesser, greater, above, with_none and charged.
-use Rattle.std.proofs.Common.{◌≡◌, ℕ, ◌+◌, ◌-◌, ◌%◌, ◌^◌, ◌<◌, ◌≤◌, false, cond, ltb, List, length, replicate, min, max, refl, ap, arith, w16, ◌∙◌}
+use Rattle.pg_tolls.proofs.Common.{◌≡◌, ℕ, ◌+◌, ◌-◌, ◌%◌, ◌^◌, ◌<◌, ◌≤◌, false, cond, ltb, List, length, replicate, min, max, refl, ap, arith, w16, ◌∙◌, nat_tests, tops_compared, length-zip2, get_or-sel_l, get_or-zip2, get_or-replicate, nth}
 use lib.Lanes.{zip2, sel_l, top}
 use mathlib.Core.List.{map}
 use mir.Val.{bits, hbits}
-use Rattle.std.proofs.lemmas.Bool.Decides.{nat_tests}
-use Rattle.std.proofs.lemmas.Simd.{tops_compared, length-zip2, get_or-sel_l, get_or-zip2, get_or-replicate}
-use Rattle.pg_tolls.specs.inner.Closing.{nth}
 
 lesser_by : (x y : ℕ) → cond (ltb x y) x y ≡ min x y
 lesser_by x y = grind (arith, nat_tests)

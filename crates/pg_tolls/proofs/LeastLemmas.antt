@@ -1,12 +1,6 @@
 -- Least numbers: of a row, of numbers raised alike, of some kinds of numbers.
-use Rattle.std.proofs.Common.{◌≡◌, ◌≢◌, ℕ, zero, suc, ◌+◌, ◌<◌, ◌≤◌, ◌⊎◌, inl, inr, Option, Some, None, min, refl, sym, ap, subst, arith, ◌∙◌}
-use Rattle.std.proofs.lemmas.Bool.Decides.{eqb_tells, leb_tells}
-use Rattle.pg_position.specs.declared.rights.Wing.{Wing}
-use Rattle.pg_position.specs.declared.rights.Wing.TheVariants.{KingSide, QueenSide}
+use Rattle.pg_tolls.proofs.Common.{◌≡◌, ◌≢◌, ℕ, zero, suc, ◌+◌, ◌<◌, ◌≤◌, ◌⊎◌, inl, inr, Option, Some, None, min, refl, sym, ap, subst, arith, ◌∙◌, eqb_tells, leb_tells, Wing, KingSide, QueenSide, lesser_of, least_of, IsAtMost, IsLeastBeside}
 use Rattle.pg_assignments.specs.Assignments.{IsLeast}
-use Rattle.pg_assignments.specs.Search.{lesser_of}
-use Rattle.pg_tolls.specs.inner.Values.{least_of}
-use Rattle.pg_tolls.specs.inner.Bills.{IsAtMost, IsLeastBeside}
 
 -- ---- the least of a row
 pub least_low : (f : ℕ → ℕ) (n e : ℕ) → e < n → least_of f n ≤ f e

@@ -1,3 +1,4 @@
+mod Common
 mod LaneLemmas
 mod RowLemmas
 mod ClosingLemmas

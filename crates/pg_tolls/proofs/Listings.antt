@@ -1,11 +1,5 @@
 -- A colour's men by their list: the place of a square.
-use Rattle.std.proofs.Common.{◌≡◌, ℕ, ◌<◌, refl}
-use Rattle.pg_board.specs.declared.man.Color.{Color}
-use Rattle.pg_board.specs.declared.man.Kind.{Kind}
-use Rattle.pg_board.specs.Placement.{Placement}
-use Rattle.pg_position.specs.Position.{Stands}
-use Rattle.pg_journeys.specs.PlanCosts.{IsListing}
-use Rattle.pg_journeys.specs.lemmas.ColumnsOfPlans.{index, index_is}
+use Rattle.pg_tolls.proofs.Common.{◌≡◌, ℕ, ◌<◌, refl, Color, Kind, Placement, Stands, IsListing, index, index_is}
 
 module _ (b : Placement) (c : Color) (xs : ℕ → ℕ) (n : ℕ) (is : IsListing b c xs n) where
   -- the place of a man's square in the list

@@ -1,17 +1,5 @@
 -- The halves that are made of a tariff are its halves.
-use Rattle.std.proofs.Common.{◌≡◌, ◌≢◌, ◌≤◌, [], subst, ◌∙◌}
-use Rattle.pg_board.specs.declared.man.Color.{Color}
-use Rattle.pg_board.specs.declared.man.Color.TheVariants.{White, Black}
-use Rattle.pg_board.specs.Men.{other}
-use Rattle.pg_board.specs.Placement.{Placement}
-use Rattle.pg_captures.specs.Counting.{men, any_man}
-use Rattle.pg_journeys.specs.Facts.{Facts}
-use Rattle.pg_tolls.specs.Tariffs.{Tariff}
-use Rattle.pg_tolls.specs.Charges.{AreOfWalls}
-use Rattle.pg_tolls.specs.inner.Halves.{AreLost, IsInRange, IsHalf}
-use Rattle.pg_tolls.specs.inner.Remembering.{IsTight, MayBeTight}
-use Rattle.pg_tolls.specs.lemmas.Soundness.{AreSound}
-use Rattle.pg_tolls.specs.declared.half.Half.{Half}
+use Rattle.pg_tolls.proofs.Common.{◌≡◌, ◌≢◌, ◌≤◌, [], subst, ◌∙◌, Color, White, Black, other, Placement, men, any_man, Facts, Tariff, AreOfWalls, AreLost, IsInRange, IsHalf, IsTight, MayBeTight, AreSound, Half}
 
 range_of : (t : Tariff) (x y : Half) → AreLost t Black x.lost 64 → AreLost t White y.lost 64 → IsInRange t
 range_of t x y black white White q low = white.in_range q low

@@ -1,32 +1,8 @@
 -- Which ways are open, and who has just passed a free square.
-use Rattle.std.proofs.Common.{◌≡◌, ◌↔◌, ℕ, ◌<◌, inl, inr, IsTrue, Option, Some, None, Bool, true, false, not, ◌&&◌, refl, sym, ap, subst, ◌∙◌, arith}
-use Rattle.pg_board.specs.Bits.{has}
-use Rattle.pg_board.specs.declared.man.Color.{Color}
-use Rattle.pg_board.specs.declared.man.Color.TheVariants.{White, Black}
-use Rattle.pg_board.specs.Men.{other}
-use Rattle.pg_board.specs.SquareSets.{IsSetOf, HasNoneFrom}
-use Rattle.pg_board.specs.Squares.{rank}
-use Rattle.pg_position.specs.declared.rights.Wing.{Wing}
-use Rattle.pg_position.specs.declared.rights.Wing.TheVariants.{KingSide, QueenSide}
-use Rattle.pg_position.specs.declared.state.State.{State}
-use Rattle.pg_position.specs.Position.{holds, IsPosition, IsPassed}
-use Rattle.pg_position.specs.Squares.{king_home, rook_home, HasAhead, passed_rank}
+use Rattle.pg_tolls.proofs.Common.{◌≡◌, ◌↔◌, ℕ, ◌<◌, inl, inr, IsTrue, Option, Some, None, Bool, true, false, not, ◌&&◌, refl, sym, ap, subst, ◌∙◌, arith, has, IsSetOf, HasNoneFrom, Wing, State, holds, king_home, rook_home, IsLess, IsOpenWay, Half, home_low, rook_low}
 use Rattle.pg_journeys.specs.inner.Costing.{IsOnSpan}
-use Rattle.pg_journeys.specs.inner.Resting.{IsLess}
-use Rattle.pg_tolls.specs.inner.Values.{IsOpenWay}
-use Rattle.pg_tolls.specs.declared.half.Half.{Half}
 
 -- ---- ways
-home_low : (c : Color) → king_home c < 64
-home_low White = omega arith
-home_low Black = omega arith
-
-rook_low : (c : Color) (w : Wing) → rook_home c w < 64
-rook_low White KingSide = omega arith
-rook_low White QueenSide = omega arith
-rook_low Black KingSide = omega arith
-rook_low Black QueenSide = omega arith
-
 -- where nothing is left of a without b, b has what a has
 in_other : (a b z : Bool) → z ≡ (a && not b) → z ≡ false → a ≡ true → b ≡ true
 in_other a true z e none on = refl
@@ -71,11 +47,3 @@ pub open_none : (x : Half) (p : State) (way : Option Wing) → way ≡ None → 
 open_none x p way e = subst (λ (o : Option Wing). IsTrue true ↔ IsOpenWay x p o) (sym e) (λ z. tt, λ u. refl)
 
 -- ---- the passed square
--- a square ahead of which a pawn of the other colour has just passed
-pub passed_ahead : (p : State) (c : Color) (e : ℕ) → IsPosition p → p.passed ≡ Some e → p.side ≡ other c → HasAhead c 1 e
-unfolding IsPassed
-passed_ahead p c e is at turn = by c (subst (λ (s : Color). rank e ≡ passed_rank s) turn (is.passing e at).0)
-  where
-    by : (c : Color) → rank e ≡ passed_rank (other c) → HasAhead c 1 e
-    by White r = omega arith
-    by Black r = omega arith

@@ -1,23 +1,7 @@
 -- What the men cost together at columns by their squares is their leasts and the sum of an assignment by their list.
-use Rattle.std.proofs.Common.{◌≡◌, ℕ, ◌+◌, ◌-◌, ◌*◌, ◌<◌, ◌≤◌, inl, inr, min, Option, Some, None, refl, sym, ap, subst, arith, ◌∙◌}
-use Rattle.std.proofs.lemmas.Bool.Decides.{leb_tells}
-use Rattle.pg_board.specs.declared.man.Kind.{Kind}
-use Rattle.pg_board.specs.Placement.{Placement}
-use Rattle.pg_board.specs.Tally.{total}
-use Rattle.pg_board.specs.lemmas.Sums.{total_same}
-use Rattle.pg_position.specs.declared.rights.Wing.{Wing}
-use Rattle.pg_position.specs.declared.state.State.{State}
-use Rattle.pg_position.specs.Position.{Stands}
-use Rattle.pg_captures.specs.Counting.{men, any_man, sum_over}
-use Rattle.pg_travel.specs.Origins.{charge}
-use Rattle.pg_travel.specs.lemmas.SumLemmas.{sum_add}
-use Rattle.pg_assignments.specs.Assignments.{IsAssignment, Below, IsTotal, IsLeast}
-use Rattle.pg_journeys.specs.PlanCosts.{IsListing}
-use Rattle.pg_journeys.specs.lemmas.ColumnsOfPlans.{index}
-use Rattle.pg_tolls.specs.inner.Values.{cost_at, least_of, clipped, marks_for, AreColumns}
-use Rattle.pg_tolls.specs.inner.Bills.{IsReduced, IsCostBy}
-use Rattle.pg_tolls.specs.declared.half.Half.{Half}
-use Rattle.pg_tolls.proofs.LeastLemmas.{least_low, raised_none, raised_some}
+use Rattle.pg_tolls.proofs.Common.{◌≡◌, ℕ, ◌+◌, ◌-◌, ◌*◌, ◌<◌, ◌≤◌, inl, inr, min, Option, Some, None, refl, sym, ap, subst, arith, ◌∙◌, leb_tells, Kind, Placement, total, total_same, Wing, State, Stands, men, any_man, sum_over, charge, sum_add, IsAssignment, Below, IsTotal, IsListing, index, cost_at, least_of, clipped, marks_for, AreColumns, IsReduced, IsCostBy, Half}
+use Rattle.pg_assignments.specs.Assignments.{IsLeast}
+use Rattle.pg_tolls.proofs.LeastLemmas.{raised_none, raised_some, least_low}
 use Rattle.pg_tolls.proofs.Listings.{place_is, place_of}
 use Rattle.pg_tolls.specs.lemmas.Listings.{sum_listed}
 

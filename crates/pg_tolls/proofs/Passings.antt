@@ -1,14 +1,5 @@
 -- The pawn of a colour who has just passed a free square, and what it costs him to be captured there.
-use Rattle.std.proofs.Common.{◌≡◌, ◌≢◌, ℕ, ◌+◌, ◌*◌, ◌≤◌, Some, None, Bool, true, false, ◌&&◌, cond, nat_eq, min, get_or, refl, sym, ap, arith, ◌∙◌}
-use Rattle.pg_board.specs.Bits.{has}
-use Rattle.pg_board.specs.declared.man.Color.{Color}
-use Rattle.pg_board.specs.declared.man.Color.TheVariants.{White, Black}
-use Rattle.pg_board.specs.Men.{color_eq, other}
-use Rattle.pg_position.specs.declared.state.State.{State}
-use Rattle.pg_position.specs.Squares.{ahead}
-use Rattle.pg_tolls.specs.inner.Values.{by_passing}
-use Rattle.pg_tolls.specs.inner.Bills.{IsPassing}
-use Rattle.pg_tolls.specs.declared.half.Half.{Half}
+use Rattle.pg_tolls.proofs.Common.{◌≡◌, ◌≢◌, ℕ, ◌+◌, ◌*◌, ◌≤◌, Some, None, Bool, true, false, ◌&&◌, cond, nat_eq, min, get_or, refl, sym, ap, arith, ◌∙◌, has, Color, White, Black, color_eq, other, State, ahead, by_passing, IsPassing, Half}
 use Rattle.pg_tolls.specs.declared.bills.Passing.{Passing}
 
 -- whose turn it is

@@ -1,15 +1,9 @@
 -- Whether both colours are paid for, by what their men cost at least.
-use Rattle.std.proofs.Common.{◌≡◌, ◌↔◌, ℕ, ◌+◌, ◌≤◌, inl, inr, not, ap, refl, leb, IsTrue, Option, Some, None, Bool, true, false, sym, subst, arith, ◌∙◌}
-use Rattle.std.proofs.lemmas.Bool.{leb-true, le-leb}
-use Rattle.pg_board.specs.Placement.{Placement}
-use Rattle.pg_position.specs.declared.state.State.{State}
+use Rattle.pg_tolls.proofs.Common.{◌≡◌, ◌↔◌, ℕ, ◌+◌, ◌≤◌, inl, inr, not, ap, refl, leb, IsTrue, Option, Some, None, Bool, true, false, sym, subst, arith, ◌∙◌, leb-true, le-leb, Placement, State, IsCost, HasFew, Half}
 use Rattle.pg_assignments.specs.Assignments.{IsLeast}
-use Rattle.pg_tolls.specs.inner.Values.{IsCost}
 use Rattle.pg_journeys.specs.FirstFacts.{HasWalls}
-use Rattle.pg_journeys.specs.Rounds.{HasFew}
 use Rattle.pg_journeys.specs.inner.Walking.{HasFewer}
 use Rattle.pg_tolls.specs.inner.Excluding.{share, limit, IsPaidFor, HalvesExclude}
-use Rattle.pg_tolls.specs.declared.half.Half.{Half}
 
 no_truth : {A : Type 0} → IsTrue false → A
 no_truth z = absurd (let f : IsTrue false = z in cc)

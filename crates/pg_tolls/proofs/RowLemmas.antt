@@ -1,11 +1,5 @@
 -- Rows of numbers, and loops that make them. Leads to the contracts of rows.
-use Rattle.std.proofs.Common.{◌≡◌, ℕ, ◌+◌, ◌<◌, ◌≤◌, true, false, List, [], get_or, min, inl, inr, sym, subst, arith, ◌∙◌}
-use Rattle.std.proofs.lemmas.Bool.Decides.{eqb_tells}
-use Rattle.pg_board.specs.Bits.{has}
-use Rattle.pg_board.specs.SquareSets.{IsFirstFrom}
-use Rattle.pg_travel.proofs.TakenSets.{AreAll, IsWithout, all_left, other_than}
-use Rattle.pg_tolls.specs.inner.Tables.{IsWithin}
-use Rattle.pg_tolls.specs.inner.Closing.{nth, cell, grown_by, AreLesser, IsNoLess}
+use Rattle.pg_tolls.proofs.Common.{◌≡◌, ℕ, ◌+◌, ◌<◌, ◌≤◌, true, false, List, [], get_or, min, inl, inr, sym, subst, arith, ◌∙◌, eqb_tells, has, IsFirstFrom, AreAll, IsWithout, all_left, other_than, IsWithin, nth, cell, grown_by, AreLesser, IsNoLess}
 
 -- ---- what is within a charge
 -- what is at most a number grown from one at most `behind`

@@ -1,26 +1,7 @@
 -- Two halves of a colour with the same numbers cost the same in positions that are the same case. Leads to the contracts of memory.
-use Rattle.std.proofs.Common.{◌≡◌, ℕ, zero, suc, ◌+◌, ◌*◌, ◌<◌, ◌≤◌, ◌↔◌, min, Bool, true, false, cond, ltb, nat_eq, ◌&&◌, Option, Some, None, List, get_or, refl, sym, ap, ap₂, subst, arith, ◌∙◌}
-use Rattle.pg_board.specs.Bits.{has}
-use Rattle.pg_board.specs.declared.man.Color.{Color}
-use Rattle.pg_board.specs.declared.man.Color.TheVariants.{White, Black}
-use Rattle.pg_board.specs.declared.man.Kind.{Kind}
-use Rattle.pg_board.specs.declared.man.Kind.TheVariants.{King}
-use Rattle.pg_board.specs.Men.{color_eq, kind_eq, other}
-use Rattle.pg_board.specs.Placement.{Placement}
-use Rattle.pg_board.specs.Tally.{tally, tally_below}
-use Rattle.pg_position.specs.declared.rights.Wing.{Wing}
-use Rattle.pg_position.specs.declared.rights.Wing.TheVariants.{KingSide, QueenSide}
-use Rattle.pg_position.specs.declared.state.State.{State}
-use Rattle.pg_position.specs.Position.{Stands, holds}
-use Rattle.pg_position.specs.Geometry.{IsBetween}
-use Rattle.pg_position.specs.Squares.{ahead, king_home, rook_home, king_target, king_crossed}
-use Rattle.pg_captures.specs.Counting.{men, any_man, sum_over}
-use Rattle.pg_travel.specs.Origins.{charge, counted}
-use Rattle.pg_tolls.specs.inner.Remembering.{HasNotPassed}
-use Rattle.pg_tolls.specs.inner.Tables.{entry}
-use Rattle.pg_tolls.specs.inner.Values.{kind_of, kind_on, by_passing, cost_at, least_of, clipped, marks_for, AreColumns, IsOpenWay, IsCost}
+use Rattle.pg_tolls.proofs.Common.{◌≡◌, ℕ, zero, suc, ◌+◌, ◌*◌, ◌<◌, ◌≤◌, ◌↔◌, min, Bool, true, false, cond, ltb, nat_eq, ◌&&◌, Option, Some, None, List, get_or, refl, sym, ap, ap₂, subst, arith, ◌∙◌, has, Color, White, Black, Kind, King, color_eq, kind_eq, other, Placement, tally, tally_below, Wing, KingSide, QueenSide, State, Stands, holds, IsBetween, ahead, king_home, rook_home, king_target, king_crossed, men, any_man, sum_over, charge, counted, HasNotPassed, entry, kind_of, kind_on, by_passing, cost_at, least_of, clipped, marks_for, AreColumns, IsOpenWay, IsCost, Half, home_low, counted_low}
 use Rattle.pg_tolls.specs.lemmas.MenSums.{same_sum}
-use Rattle.pg_tolls.specs.declared.half.Half.{Half}
+use Rattle.pg_tolls.proofs.LeastLemmas.{least_top}
 
 -- ---- counting
 men_summed : (b : Placement) (c : Color) → men c any_man b ≡ sum_over c any_man b (λ s. 1)
@@ -35,14 +16,10 @@ same_count a b c same =
     ∙ sym (men_summed b c)
 
 -- ---- the least of numbers that count for none from 65535 on
-least_low : (f : ℕ → ℕ) (n : ℕ) → least_of f n ≤ 65535
-least_low f zero = omega arith
-least_low f (suc n) = omega (arith, least_low f n)
-
 least_capped : (f g : ℕ → ℕ) (n : ℕ) → ((e : ℕ) → e < n → min (f e) 65535 ≡ min (g e) 65535) → least_of f n ≡ least_of g n
 least_capped f g zero same = refl
 least_capped f g (suc n) same =
-    omega (arith, least_capped f g n (λ e l. same e (omega arith)), least_low f n, least_low g n, same n (omega arith))
+    omega (arith, least_capped f g n (λ e l. same e (omega arith)), least_top f n, least_top g n, same n (omega arith))
 
 -- ---- what one man costs
 -- who has passed no square is captured where the table says
@@ -86,25 +63,11 @@ pub record AreSameCase (d : Placement) (x y : Half) (p q : State) : Type 0 where
   pub numbers : (k : Kind) (s e : ℕ) → s < 64 → e < 16 →
       min (entry x.rows.items (marks_for x d p.board) k s e) 65535 ≡ min (entry y.rows.items (marks_for x d p.board) k s e) 65535
 
--- squares of castling are on the board
-home_low : (c : Color) → king_home c < 64
-home_low White = omega arith
-home_low Black = omega arith
-
 wing_low : (c : Color) (w : Wing) → (rook_home c w < 64) × (king_target c w < 64) × (king_crossed c w < 64)
 wing_low White KingSide = (omega arith, omega arith, omega arith)
 wing_low White QueenSide = (omega arith, omega arith, omega arith)
 wing_low Black KingSide = (omega arith, omega arith, omega arith)
 wing_low Black QueenSide = (omega arith, omega arith, omega arith)
-
-chosen_low : (b d : Bool) (m n o : ℕ) → m < 64 → n < 64 → o < 64 → cond b m (cond d n o) < 64
-chosen_low true d m n o lm ln lo = lm
-chosen_low false true m n o lm ln lo = ln
-chosen_low false false m n o lm ln lo = lo
-
-counted_low : (c : Color) (way : Option Wing) (s : ℕ) → s < 64 → counted c way s < 64
-counted_low c None s low = low
-counted_low c (Some w) s low = chosen_low (nat_eq s (king_home c)) (nat_eq s (rook_home c w)) (king_target c w) (king_crossed c w) s (wing_low c w).1 (wing_low c w).2 low
 
 module _ (d : Placement) (x y : Half) (p q : State) (same : AreSameCase d x y p q) where
   -- marks, and how many men there are

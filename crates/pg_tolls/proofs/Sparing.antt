@@ -1,19 +1,6 @@
 -- A castling spares the men no more than its bill says, so it costs no less than the same plan without it, less that.
-use Rattle.std.proofs.Common.{◌≡◌, ℕ, ◌+◌, ◌-◌, ◌*◌, ◌<◌, ◌≤◌, inl, inr, Option, Some, None, get_or, refl, ap, subst, arith, ◌∙◌}
-use Rattle.pg_board.specs.Placement.{Placement}
-use Rattle.pg_board.specs.Tally.{total}
-use Rattle.pg_board.specs.lemmas.Sums.{total-le}
-use Rattle.pg_position.specs.declared.rights.Wing.{Wing}
-use Rattle.pg_position.specs.declared.state.State.{State}
-use Rattle.pg_captures.specs.Counting.{men, any_man}
-use Rattle.pg_travel.specs.lemmas.SumLemmas.{sum_add, sum_term}
-use Rattle.pg_assignments.specs.Assignments.{cost, IsAssignment, Below, IsTotal, IsLeast}
-use Rattle.pg_tolls.specs.inner.Values.{marks_for}
-use Rattle.pg_tolls.specs.inner.Bills.{costs_of, IsPartyOf, IsBillOf, IsCostBy, HasSpared, IsBoundBy}
-use Rattle.pg_tolls.specs.declared.half.Half.{Half}
-use Rattle.pg_tolls.specs.declared.bills.Party.{Party}
-use Rattle.pg_tolls.specs.declared.bills.Bill.{Bill}
-use Rattle.pg_tolls.specs.declared.bills.Castled.{Castled}
+use Rattle.pg_tolls.proofs.Common.{◌≡◌, ℕ, ◌+◌, ◌-◌, ◌*◌, ◌<◌, ◌≤◌, inl, inr, Option, Some, None, get_or, refl, ap, subst, arith, ◌∙◌, Placement, total, total-le, Wing, State, men, any_man, sum_add, sum_term, cost, IsAssignment, Below, IsTotal, marks_for, costs_of, IsPartyOf, IsBillOf, IsCostBy, HasSpared, IsBoundBy, Half, Party, Bill, Castled}
+use Rattle.pg_assignments.specs.Assignments.{IsLeast}
 use Rattle.pg_tolls.proofs.Billing.{total_of, cost_of}
 
 -- where each row's costs are at most g more at each column, an assignment is at most all of these more

@@ -1,37 +1,13 @@
 -- Halves of one tariff with the highest tables have the same numbers, so what is remembered of one is true of each. Leads to
 -- the contracts of tables, making, tolls and memory.
-use Rattle.std.proofs.Common.{◌≡◌, ◌≢◌, ℕ, ◌+◌, ◌*◌, ◌<◌, ◌≤◌, ◌↔◌, min, inl, inr, ltb, List, [], Option, Some, None, get_or, refl, sym, ap, subst, arith, ◌∙◌}
-use Rattle.std.proofs.lemmas.Bool.{cases_Bool, ltb-true, ltb-false}
+use Rattle.pg_tolls.proofs.Common.{◌≡◌, ◌≢◌, ℕ, ◌+◌, ◌*◌, ◌<◌, ◌≤◌, ◌↔◌, min, inl, inr, ltb, List, [], Option, Some, None, get_or, refl, sym, ap, subst, arith, ◌∙◌, cases_Bool, ltb-true, ltb-false, Color, Kind, Pawn, other, Placement, Wing, KingSide, QueenSide, State, Stands, holds, Facts, HasFew, leg, kind_at, square_at, Men, AreOfWalls, Tariff, AreLayers, Numbers, AreClosedAt, AreClosedTo, numbers_of, most_for, AreOnSame, IsTight, MayBeTight, HasNotPassed, IsCase, Tells, entry, raised, IsWithin, kind_of, marks_for, IsCost, same_still, same_leg, same_lands, no_proof, Half, Case}
 use Rattle.std.proofs.Math.Logic.{∥∥₁_elim, ∥∥₁_map}
 use Rattle.std.specs.Coded.{le_prop}
-use Rattle.pg_board.specs.declared.man.Color.{Color}
-use Rattle.pg_board.specs.declared.man.Kind.{Kind}
-use Rattle.pg_board.specs.declared.man.Kind.TheVariants.{Pawn}
-use Rattle.pg_board.specs.Men.{other}
-use Rattle.pg_board.specs.Placement.{Placement}
-use Rattle.pg_position.specs.declared.rights.Wing.{Wing}
-use Rattle.pg_position.specs.declared.rights.Wing.TheVariants.{KingSide, QueenSide}
-use Rattle.pg_position.specs.declared.state.State.{State}
-use Rattle.pg_position.specs.Position.{Stands, holds}
 use Rattle.pg_assignments.specs.Assignments.{IsLeast}
-use Rattle.pg_journeys.specs.Facts.{Facts}
-use Rattle.pg_journeys.specs.Rounds.{HasFew}
-use Rattle.pg_journeys.specs.lemmas.Turns.{leg}
-use Rattle.pg_journeys.specs.inner.Sides.{kind_at, square_at}
-use Rattle.pg_journeys.specs.declared.men.Men.{Men}
-use Rattle.pg_tolls.specs.Charges.{AreOfWalls}
-use Rattle.pg_tolls.specs.Tariffs.{Tariff}
-use Rattle.pg_tolls.specs.inner.Closing.{AreLayers}
-use Rattle.pg_tolls.specs.inner.Highest.{Numbers, AreClosedAt, AreClosedTo, numbers_of}
-use Rattle.pg_tolls.specs.inner.Remembering.{most_for, AreOnSame, IsTight, MayBeTight, HasNotPassed, IsCase, Tells}
-use Rattle.pg_tolls.specs.inner.Tables.{entry, raised, IsWithin}
-use Rattle.pg_tolls.specs.inner.Values.{kind_of, marks_for, IsCost}
 use Rattle.pg_tolls.specs.lemmas.DecidingCosts.{dec_cost_within}
-use Rattle.pg_tolls.specs.lemmas.Soundness.{same_still, same_leg, same_lands, no_proof}
-use Rattle.pg_tolls.specs.declared.half.Half.{Half}
-use Rattle.pg_tolls.specs.declared.memory.Case.{Case}
 use Rattle.pg_tolls.proofs.ClosingLemmas.{piece_of, falls_of}
 use Rattle.pg_tolls.proofs.SameCosts.{AreSameCase, cost_there}
+use Rattle.pg_tolls.proofs.LeastLemmas.{least_along}
 
 -- ---- the numbers of a closed table are closed
 capped_within : (a b charge : ℕ) → IsWithin a b charge → IsWithin (min a 65535) (min b 65535) charge
@@ -147,11 +123,6 @@ module _ (t : Tariff) (d : Placement) (c : Color) (goals : Men) (x y : Half) (cx
       cost_there d x y p q (same_case one.0 two.0 one.1 two.1 one.2 two.2) v cost
 
 -- ---- the least cost
-least_along : (P Q : ℕ → Type 0) (o : Option ℕ) → ((v : ℕ) → P v → Q v) → ((v : ℕ) → Q v → P v) → IsLeast P o → IsLeast Q o
-unfolding IsLeast
-least_along P Q None forth back none = λ v h. none v (back v h)
-least_along P Q (Some n) forth back (h, low) = (forth n h, λ v g. low v (back v g))
-
 -- that a number is least is known where it is known in truth alone
 pub least_known : (x : Half) (d : Placement) (p : State) (o : Option ℕ) → ∥ IsLeast (IsCost x d p) o ∥₁ → IsLeast (IsCost x d p) o
 unfolding IsLeast

@@ -1,26 +1,8 @@
 -- The party of all men: listing the men without those on no square lists all.
-use Rattle.std.proofs.Common.{◌≡◌, ◌↔◌, ◌⊎◌, inl, inr, ℕ, ◌≤◌, IsTrue, Option, Some, None, Bool, true, false, cond, refl, sym, ap, subst, ◌∙◌}
-use Rattle.pg_board.specs.Bits.{has, has-none}
-use Rattle.pg_board.specs.declared.man.Color.{Color}
-use Rattle.pg_board.specs.Placement.{Placement, get, get-placement_of, same_placement}
-use Rattle.pg_position.specs.declared.rights.Wing.{Wing}
-use Rattle.pg_position.specs.declared.rights.Wing.TheVariants.{KingSide, QueenSide}
-use Rattle.pg_position.specs.declared.state.State.{State}
-use Rattle.pg_captures.specs.Counting.{men, any_man}
+use Rattle.pg_tolls.proofs.Common.{◌≡◌, ◌↔◌, ◌⊎◌, inl, inr, ℕ, ◌≤◌, IsTrue, Option, Some, None, Bool, true, false, refl, sym, ap, subst, ◌∙◌, Color, Placement, Wing, KingSide, QueenSide, State, men, any_man, lesser_of, lifted, AreMen, Men, IsOpenWay, IsCost, IsPassing, AreColumnsOf, IsPartyOf, IsCostBy, IsOpenCost, IsLeastBeside, Half, Party, lifted_none}
 use Rattle.pg_assignments.specs.Assignments.{IsLeast}
-use Rattle.pg_assignments.specs.Search.{lesser_of}
-use Rattle.pg_journeys.specs.inner.Resting.{lifted}
-use Rattle.pg_journeys.specs.inner.Sides.{AreMen}
-use Rattle.pg_journeys.specs.declared.men.Men.{Men}
-use Rattle.pg_tolls.specs.inner.Values.{IsOpenWay, IsCost}
-use Rattle.pg_tolls.specs.inner.Bills.{IsPassing, AreColumnsOf, IsPartyOf, IsCostBy, IsOpenCost, IsLeastBeside}
-use Rattle.pg_tolls.specs.declared.half.Half.{Half}
-use Rattle.pg_tolls.specs.declared.bills.Party.{Party}
 use Rattle.pg_tolls.proofs.LeastLemmas.{least_along, least_none, beside_none, least_of_ways}
 use Rattle.pg_tolls.proofs.Openings.{open_none}
-
-lifted_none : (b : Placement) → lifted b 0 ≡ b
-lifted_none b = same_placement (lifted b 0) b (λ q low. get-placement_of (λ s. cond (has 0 s) None (get b s)) q low ∙ ap (λ (t : Bool). cond t None (get b q)) (has-none q))
 
 lifted_is : (b a : Placement) (z : ℕ) → b ≡ a → z ≡ 0 → lifted b z ≡ a
 lifted_is b a z e h = ap (λ (y : ℕ). lifted b y) h ∙ lifted_none b ∙ e

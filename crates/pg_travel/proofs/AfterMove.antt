@@ -1,39 +1,12 @@
 -- What a move leaves of its own side's travel. Leads to the contracts of after_move.
-use Rattle.std.proofs.Common.{zero, suc, ◌+◌, ◌-◌, min, count_ones, ◌≡◌, ◌≢◌, ℕ, ◌<◌, ◌≤◌, ◌⊎◌, ◌&&◌, ◌||◌, not, nat_eq, inl, inr, Bool, true, false, Option, Some, None, is_some, IsTrue, ◌↔◌, List, get_or, refl, sym, ap, subst, arith, ◌∙◌}
-use Rattle.std.proofs.lemmas.Bool.Decides.{eqb_tells}
-use Rattle.pg_board.specs.declared.man.Color.{Color}
-use Rattle.pg_board.specs.declared.man.Kind.{Kind}
-use Rattle.pg_board.specs.Bits.{has}
-use Rattle.pg_board.specs.declared.man.Man.{Man}
-use Rattle.pg_board.specs.Men.{man, is_man, other}
-use Rattle.pg_board.specs.lemmas.Equalities.{is_man_decides}
-use Rattle.pg_board.specs.Placement.{Placement, get}
-use Rattle.pg_board.specs.Tally.{one, count_below, total}
-use Rattle.pg_board.specs.lemmas.Sums.{total-suc, count_below-le}
-use Rattle.pg_board.specs.SquareSets.{IsSetOf}
-use Rattle.pg_position.specs.declared.rights.Wing.{Wing}
-use Rattle.pg_position.specs.declared.rights.Wing.TheVariants.{KingSide, QueenSide}
-use Rattle.pg_position.specs.declared.state.State.{State}
+use Rattle.pg_travel.proofs.Common.{zero, suc, ◌+◌, ◌-◌, min, count_ones, ◌≡◌, ◌≢◌, ℕ, ◌<◌, ◌≤◌, ◌⊎◌, ◌&&◌, ◌||◌, not, nat_eq, inl, inr, Bool, true, false, Option, Some, None, is_some, IsTrue, ◌↔◌, List, get_or, refl, sym, ap, subst, arith, ◌∙◌, eqb_tells, Color, Kind, has, Man, man, is_man, other, is_man_decides, Placement, get, one, count_below, total, total-suc, count_below-le, IsSetOf, Wing, KingSide, QueenSide, State, Stands, IsPosition, holds, king_home, rook_home, king_target, king_crossed, ahead, legal_position, men, any_man, number_among, plies_left, TravelTest, distance_of, MayCastle, AreMoved, KeepsRights, IsMoved, IsToCome, AreToCome, NonePays, stored, IsRow, at_target, steps_of, IsLowered, IsOff, IsBelow, cost, SumIs, CostsEach, PaysIs, CastledIs}
 use Rattle.pg_position.specs.declared.moves.Move.{Move}
 use Rattle.pg_position.specs.declared.moves.StepKind.{StepKind}
 use Rattle.pg_position.specs.declared.moves.StepKind.TheVariants.{Plain, Capture, DoubleAdvance, EnPassant, Promotion, Castling}
-use Rattle.pg_position.specs.Position.{Stands, IsPosition, holds}
-use Rattle.pg_position.specs.Squares.{king_home, rook_home, king_target, king_crossed, ahead}
 use Rattle.pg_position.specs.Step.{IsOnBoard, IsWay, relocated, board_after, after, Step, Legal}
 use Rattle.pg_position.proofs.StepLemmas.{some_none}
-use Rattle.pg_position.proofs.FutureLemmas.{legal_position}
-use Rattle.pg_captures.specs.Counting.{men, any_man}
-use Rattle.pg_captures.specs.PriceLists.{number_among}
 use Rattle.pg_captures.specs.lemmas.BoardLemmas.{stood_emptied, stood_before, arrived}
 use Rattle.pg_captures.specs.lemmas.MoveLemmas.{own_step, side_step}
-use Rattle.pg_captures.specs.Owed.{plies_left}
-use Rattle.pg_travel.specs.Needs.{TravelTest}
-use Rattle.pg_travel.specs.inner.Formulas.{distance_of}
-use Rattle.pg_travel.specs.inner.AfterMove.{MayCastle, AreMoved, KeepsRights, IsMoved, IsToCome, AreToCome, NonePays}
-use Rattle.pg_travel.specs.inner.DistanceRows.{stored, IsRow}
-use Rattle.pg_travel.specs.inner.LeastRows.{at_target, steps_of, IsLowered, IsOff, IsBelow}
-use Rattle.pg_travel.specs.inner.Costs.{cost, SumIs}
-use Rattle.pg_travel.specs.inner.Within.{CostsEach, PaysIs, CastledIs}
 use Rattle.pg_travel.proofs.Skips.{IsOwn}
 use Rattle.pg_travel.proofs.SourceLemmas.{row_has, row_rest}
 use Rattle.pg_travel.proofs.LeastRows.{same_kind, stored_is, distance_low}

@@ -1,30 +1,7 @@
 -- The least that a castling way may cost, by rows. Leads to the contract of `pays_castled` by rows.
-use Rattle.std.proofs.Common.{◌≡◌, ◌≢◌, ℕ, zero, suc, ◌+◌, cond, ◌<◌, ◌≤◌, ◌⊎◌, nat_eq, min, inl, inr, Bool, true, false, Option, Some, None, List, get_or, refl, sym, ap, arith, ◌∙◌}
-use Rattle.std.proofs.lemmas.Bool.Decides.{eqb_tells}
-use Rattle.pg_board.specs.declared.man.Color.{Color}
-use Rattle.pg_board.specs.declared.man.Kind.{Kind}
-use Rattle.pg_board.specs.declared.man.Kind.TheVariants.{Rook, King}
-use Rattle.pg_board.specs.Men.{man, is_of}
-use Rattle.pg_board.specs.Placement.{Placement, get}
-use Rattle.pg_board.specs.Tally.{total}
-use Rattle.pg_board.specs.lemmas.Sums.{total-none, total-more}
-use Rattle.pg_board.specs.lemmas.Tallies.{tally_below-none, tally_below-all}
-use Rattle.pg_position.specs.declared.rights.Wing.{Wing}
-use Rattle.pg_position.specs.declared.state.State.{State}
-use Rattle.pg_position.specs.Position.{Stands, IsPosition, holds, IsHome, RightsClause}
-use Rattle.pg_position.specs.Squares.{king_home, rook_home, king_target, king_crossed}
-use Rattle.pg_captures.specs.Counting.{of_color, men, any_man}
-use Rattle.pg_captures.specs.PriceLists.{number_among}
-use Rattle.pg_travel.specs.Origins.{counted}
-use Rattle.pg_travel.specs.lemmas.Values.{least_reached, cost_man}
-use Rattle.pg_travel.specs.inner.Formulas.{distance_of, least_of}
-use Rattle.pg_travel.specs.inner.Costs.{reach_of, nearest, cost, SumIs}
-use Rattle.pg_travel.specs.inner.Within.{CastledIs}
-use Rattle.pg_travel.specs.inner.DistanceRows.{stored}
-use Rattle.pg_travel.specs.inner.LeastRows.{at_target, AreLesser, IsFree, IsBelow, IsCastled, row_cost}
+use Rattle.pg_travel.proofs.Common.{◌≡◌, ◌≢◌, ℕ, zero, suc, ◌+◌, cond, ◌<◌, ◌≤◌, ◌⊎◌, nat_eq, min, inl, inr, Bool, true, false, Option, Some, None, List, get_or, refl, sym, ap, arith, ◌∙◌, eqb_tells, Color, Kind, Rook, King, man, is_of, Placement, get, total, total-none, total-more, tally_below-none, tally_below-all, Wing, State, Stands, IsPosition, holds, IsHome, RightsClause, king_home, rook_home, king_target, king_crossed, of_color, men, any_man, number_among, counted, least_reached, cost_man, distance_of, least_of, reach_of, nearest, cost, SumIs, CastledIs, stored, at_target, AreLesser, IsFree, IsBelow, IsCastled, row_cost, PaysIs}
 use Rattle.pg_travel.proofs.Skips.{sum_skip}
 use Rattle.pg_travel.proofs.SourceLemmas.{row_has, below_all, of_there, of_man, number_next}
-use Rattle.pg_travel.specs.inner.Within.{PaysIs}
 use Rattle.pg_travel.proofs.Within.{pays_not, castled_by}
 use Rattle.pg_travel.proofs.LeastRows.{same_kind, stored_is, reach_own, reach_cases, Number}
 

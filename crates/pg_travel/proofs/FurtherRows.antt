@@ -1,16 +1,5 @@
 -- Where rows for men past the sixteenth stand. Leads to the contracts of rows.
-use Rattle.std.proofs.Common.{◌≡◌, ◌≢◌, ℕ, ◌+◌, ◌-◌, ◌*◌, ◌/◌, ◌%◌, ◌<◌, ◌≤◌, inl, inr, List, [], length, get_or, set, refl, sym, ap, subst, arith, ◌∙◌}
-use Rattle.std.proofs.lemmas.Bool.Decides.{eqb_tells}
-use Rattle.std.proofs.lemmas.List.{get_or-set_same, get_or-set_other}
-use Rattle.std.proofs.Math.ListN.{length-set}
-use Rattle.pg_board.specs.declared.man.Color.{Color}
-use Rattle.pg_board.specs.declared.man.Color.TheVariants.{White, Black}
-use Rattle.pg_board.specs.declared.man.Kind.{Kind}
-use Rattle.pg_board.specs.declared.man.Kind.TheVariants.{Pawn}
-use Rattle.pg_board.specs.Men.{number_of_kind}
-use Rattle.pg_board.specs.Placement.{Placement}
-use Rattle.pg_captures.specs.Counting.{men, any_man}
-use Rattle.pg_travel.specs.inner.DistanceRows.{IsRowFrom, IsReached, IsUnmasked, page_start, IsFurtherIn, IsFurtherAt, AreFurther, AreFirstFurther}
+use Rattle.pg_travel.proofs.Common.{◌≡◌, ◌≢◌, ℕ, ◌+◌, ◌-◌, ◌*◌, ◌/◌, ◌%◌, ◌<◌, ◌≤◌, inl, inr, List, [], length, get_or, set, refl, sym, ap, subst, arith, ◌∙◌, eqb_tells, get_or-set_same, get_or-set_other, length-set, Color, White, Black, Kind, Pawn, number_of_kind, Placement, men, any_man, IsRowFrom, IsReached, IsUnmasked, page_start, IsFurtherIn, IsFurtherAt, AreFurther, AreFirstFurther}
 use Rattle.pg_travel.proofs.RowTables.{both_fit, kind_low}
 use Rattle.pg_travel.proofs.MakingRows.{row_unmasked}
 

@@ -1,44 +1,9 @@
 -- The least distances by rows, and the need of a way from them. Leads to the contracts of least_rows.
-use Rattle.std.proofs.Common.{◌≡◌, ◌≢◌, ℕ, zero, suc, ◌+◌, cond, ◌<◌, ◌≤◌, ◌⊎◌, not, nat_eq, ◌&&◌, inl, inr, Bool, true, false, leb, Option, Some, None, List, length, get_or, set, refl, sym, ap, subst, arith, ◌∙◌}
-use Rattle.std.proofs.lemmas.Bool.Decides.{eqb_tells, leb_tells}
-use Rattle.std.proofs.lemmas.Bool.{ne_eqb}
-use Rattle.std.proofs.lemmas.List.{get_or-set_same, get_or-set_other}
-use Rattle.std.proofs.Math.ListN.{length-set}
-use Rattle.pg_board.specs.declared.man.Color.{Color}
-use Rattle.pg_board.specs.declared.man.Color.TheVariants.{White, Black}
-use Rattle.pg_board.specs.declared.man.Kind.{Kind}
-use Rattle.pg_board.specs.declared.man.Kind.TheVariants.{Pawn, Knight, Bishop, Rook, Queen, King}
-use Rattle.pg_board.specs.declared.man.Man.{Man}
-use Rattle.pg_board.specs.Bits.{has}
-use Rattle.pg_board.specs.Men.{man, color_eq, is_of, is_man}
-use Rattle.pg_board.specs.SquareSets.{IsSetOf, IsFirstFrom, HasNoneFrom}
-use Rattle.pg_board.specs.lemmas.Equalities.{color_decides, is_man_decides}
-use Rattle.pg_board.specs.Placement.{Placement, get}
-use Rattle.pg_board.specs.Tally.{total}
-use Rattle.pg_board.specs.lemmas.Sums.{total-none, total-more}
-use Rattle.pg_board.specs.lemmas.Tallies.{tally_below-none, tally_below-all}
-use Rattle.pg_board.proofs.SetLemmas.{set_of_rest}
-use Rattle.pg_position.specs.declared.rights.Wing.{Wing}
-use Rattle.pg_position.specs.declared.rights.Wing.TheVariants.{KingSide, QueenSide}
-use Rattle.pg_position.specs.declared.state.State.{State}
-use Rattle.pg_position.specs.Position.{Stands}
-use Rattle.pg_position.specs.Squares.{king_home, rook_home, king_target, king_crossed}
-use Rattle.pg_captures.specs.Counting.{of_color, men, any_man}
-use Rattle.pg_captures.specs.Owed.{plies_left}
-use Rattle.pg_captures.specs.PriceLists.{number_among}
-use Rattle.pg_travel.specs.Origins.{counted, charge}
-use Rattle.pg_travel.specs.Decided.{sum_of}
-use Rattle.pg_travel.specs.lemmas.Pawns.{some_by_steps, walk_bounds}
-use Rattle.pg_travel.specs.lemmas.Values.{least_at_most, least_reached, counted_low, sum_is_value, cost_man}
-use Rattle.pg_travel.specs.inner.Formulas.{distance_of, least_of}
-use Rattle.pg_travel.specs.inner.Costs.{reach_of, nearest, cost, SumIs}
-use Rattle.pg_travel.specs.inner.Within.{PaysIs}
+use Rattle.pg_travel.proofs.Common.{◌≡◌, ◌≢◌, ℕ, zero, suc, ◌+◌, cond, ◌<◌, ◌≤◌, ◌⊎◌, not, nat_eq, ◌&&◌, inl, inr, Bool, true, false, leb, Option, Some, None, List, length, get_or, set, refl, sym, ap, subst, arith, ◌∙◌, eqb_tells, leb_tells, ne_eqb, get_or-set_same, get_or-set_other, length-set, Color, White, Black, Kind, Pawn, Knight, Bishop, Rook, Queen, King, Man, has, man, color_eq, is_of, is_man, IsSetOf, IsFirstFrom, HasNoneFrom, color_decides, is_man_decides, Placement, get, total, total-none, total-more, tally_below-none, tally_below-all, set_of_rest, Wing, KingSide, QueenSide, State, Stands, king_home, rook_home, king_target, king_crossed, of_color, men, any_man, plies_left, number_among, counted, charge, sum_of, some_by_steps, walk_bounds, least_at_most, least_reached, counted_low, sum_is_value, cost_man, distance_of, least_of, reach_of, nearest, cost, SumIs, PaysIs, stored, IsRow, at_target, steps_of, IsUnreached, AreLesser, IsLowered, IsHomeOf, IsOff, StandsOff, IsLeastFrom, IsFree, IsAway, IsLeastRow, row_cost}
 use Rattle.pg_travel.proofs.Skips.{sum_skip, cost_none}
 use Rattle.pg_travel.proofs.TakenSets.{AreAll, IsWithout, other_than, taken_itself}
 use Rattle.pg_travel.proofs.SourceLemmas.{row_has, below_all, of_there, of_man, number_next}
 use Rattle.pg_travel.proofs.Within.{pays_by}
-use Rattle.pg_travel.specs.inner.DistanceRows.{stored, IsRow}
-use Rattle.pg_travel.specs.inner.LeastRows.{at_target, steps_of, IsUnreached, AreLesser, IsLowered, IsHomeOf, IsOff, StandsOff, IsLeastFrom, IsFree, IsAway, IsLeastRow, row_cost}
 
 -- ---- a row without distances
 -- what is known of the first i numbers

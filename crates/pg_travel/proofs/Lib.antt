@@ -1,3 +1,4 @@
+mod Common
 pub mod Skips
 pub mod Nearness
 pub mod PawnRows

@@ -1,21 +1,5 @@
 -- How a row of distances is made, kind by kind of its targets. Leads to the contract of `row`.
-use Rattle.std.proofs.Common.{◌≡◌, ◌≢◌, ℕ, suc, ◌+◌, ◌-◌, ◌&&◌, not, cond, ◌<◌, ◌≤◌, inl, inr, Bool, true, false, Some, List, length, get_or, refl, sym, ap, subst, arith, ◌∙◌}
-use Rattle.std.proofs.lemmas.Bool.Decides.{eqb_tells, leb_tells}
-use Rattle.pg_board.specs.declared.man.Color.{Color}
-use Rattle.pg_board.specs.declared.man.Kind.{Kind}
-use Rattle.pg_board.specs.declared.man.Kind.TheVariants.{Pawn, Knight, Bishop, Rook, Queen, King}
-use Rattle.pg_board.specs.declared.man.Man.{Man}
-use Rattle.pg_board.specs.Bits.{has}
-use Rattle.pg_board.specs.SquareSets.{IsFirstFrom, HasNoneFrom}
-use Rattle.pg_board.specs.Men.{is_of, is_man, man, kind_eq}
-use Rattle.pg_board.specs.lemmas.Equalities.{kind_decides, is_man_decides}
-use Rattle.pg_board.specs.Placement.{Placement, get}
-use Rattle.pg_position.specs.Position.{Stands}
-use Rattle.pg_captures.specs.Counting.{men, any_man}
-use Rattle.pg_captures.specs.PriceLists.{number_among}
-use Rattle.pg_travel.specs.inner.Formulas.{knight, bishop, rook, queen, king, distance_of}
-use Rattle.pg_travel.specs.inner.DistanceRows.{stored, to_stood, IsRowFrom, IsWritten, IsWithKind, IsPieceRow, IsMask, IsUnmasked}
-use Rattle.pg_travel.specs.inner.LeastRows.{IsUnreached}
+use Rattle.pg_travel.proofs.Common.{◌≡◌, ◌≢◌, ℕ, suc, ◌+◌, ◌-◌, ◌&&◌, not, cond, ◌<◌, ◌≤◌, inl, inr, Bool, true, false, Some, List, length, get_or, refl, sym, ap, subst, arith, ◌∙◌, eqb_tells, leb_tells, Color, Kind, Pawn, Knight, Bishop, Rook, Queen, King, Man, has, IsFirstFrom, HasNoneFrom, is_of, is_man, man, kind_eq, kind_decides, is_man_decides, Placement, get, Stands, men, any_man, number_among, knight, bishop, rook, queen, king, distance_of, stored, to_stood, IsRowFrom, IsWritten, IsWithKind, IsPieceRow, IsMask, IsUnmasked, IsUnreached}
 use Rattle.pg_travel.proofs.RowTables.{grows}
 use Rattle.pg_travel.proofs.SourceLemmas.{of_there, of_man, below_all, number_next, and_no}
 use Rattle.pg_travel.proofs.TakenSets.{AreAll, IsWithout, other_than, taken_itself}

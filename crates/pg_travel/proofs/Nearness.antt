@@ -1,22 +1,5 @@
 -- The nearest man that comes to be of a kind is of that kind, or a pawn; and how soon a pawn can be one.
-use Rattle.std.proofs.Common.{◌≡◌, ◌≢◌, eqb, ℕ, zero, suc, ◌+◌, ◌<◌, ◌≤◌, ◌⊎◌, inl, inr, Option, Some, None, cond, min, Bool, true, false, refl, sym, ap, subst, arith, ◌∙◌}
-use Rattle.std.proofs.lemmas.Bool.Decides.{eqb_tells, nat_tests}
-use Rattle.pg_board.specs.declared.man.Color.{Color}
-use Rattle.pg_board.specs.declared.man.Color.TheVariants.{White, Black}
-use Rattle.pg_board.specs.declared.man.Kind.{Kind}
-use Rattle.pg_board.specs.declared.man.Kind.TheVariants.{Pawn, Knight, Bishop, Rook, Queen, King}
-use Rattle.pg_board.specs.declared.man.Man.{Man}
-use Rattle.pg_board.specs.Men.{man, kind_eq, is_man}
-use Rattle.pg_board.specs.lemmas.Equalities.{kind_decides}
-use Rattle.pg_board.specs.Placement.{Placement, get}
-use Rattle.pg_board.specs.Bits.{has}
-use Rattle.pg_position.specs.declared.rights.Wing.{Wing}
-use Rattle.pg_position.specs.declared.rights.Wing.TheVariants.{KingSide, QueenSide}
-use Rattle.pg_board.specs.SquareSets.{IsFirstFrom}
-use Rattle.pg_travel.specs.Origins.{counted}
-use Rattle.pg_travel.specs.inner.Formulas.{rank_for, pawn_steps, last_at, least_of, pawn_to, soonest, knight, bishop, rook, queen, distance_of, is_promoted, least_steps}
-use Rattle.pg_travel.specs.inner.Costs.{reach_of, reach_from, BeyondFar, nearest, nearest_man}
-use Rattle.pg_travel.specs.lemmas.Pawns.{by_other, some_by_steps, least_of_more, least_of_none}
+use Rattle.pg_travel.proofs.Common.{◌≡◌, ◌≢◌, eqb, ℕ, zero, suc, ◌+◌, ◌<◌, ◌≤◌, ◌⊎◌, inl, inr, Option, Some, None, cond, min, Bool, true, false, refl, sym, ap, subst, arith, ◌∙◌, eqb_tells, nat_tests, Color, White, Black, Kind, Pawn, Knight, Bishop, Rook, Queen, King, Man, man, kind_eq, is_man, kind_decides, Placement, get, has, Wing, KingSide, QueenSide, IsFirstFrom, counted, rank_for, pawn_steps, last_at, least_of, pawn_to, soonest, knight, bishop, rook, queen, distance_of, is_promoted, least_steps, reach_of, reach_from, BeyondFar, nearest, nearest_man, by_other, some_by_steps, least_of_more, least_of_none}
 use Rattle.pg_travel.proofs.Skips.{least_le, least_skip}
 
 -- two least numbers make one

@@ -1,10 +1,6 @@
 -- The table of a pawn's distances is the formula. Leads to the contract of `pawn`.
-use Rattle.std.proofs.Common.{◌≡◌, ℕ, ◌<◌, ◌≤◌, Bool, true, List, [], get_or, eqb, eqb-true, refl, sym, ap, arith, ◌∙◌}
-use Rattle.pg_board.specs.declared.man.Color.{Color}
-use Rattle.pg_board.specs.declared.man.Color.TheVariants.{White, Black}
+use Rattle.pg_travel.proofs.Common.{◌≡◌, ℕ, ◌<◌, ◌≤◌, Bool, true, List, [], get_or, eqb, eqb-true, refl, sym, ap, arith, ◌∙◌, Color, White, Black, mirrored, pawn_steps, pawn, all_below, below_at}
 use Rattle.pg_travel.specs.declared.pawn_table.TheConstants.{WHITE_PAWN}
-use Rattle.pg_travel.specs.inner.Formulas.{mirrored, pawn_steps, pawn}
-use Rattle.pg_travel.specs.lemmas.PairTests.{all_below, below_at}
 
 abbrev at : List (List ℕ) → ℕ → ℕ → ℕ
 at t i k = get_or (get_or t i []) k 0

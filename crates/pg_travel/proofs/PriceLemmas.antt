@@ -1,19 +1,7 @@
 -- The tests of price lists, from sources and targets to all lists. Leads to the contract of `prices_exclude`.
-use Rattle.std.proofs.Common.{◌≡◌, ◌↔◌, ℕ, ◌+◌, ◌<◌, cond, Bool, true, false, IsTrue, Option, Some, None, List, [], ◌∷◌, ◌++◌, length, refl, subst, arith}
-use Rattle.std.specs.Prelude.{sum}
+use Rattle.pg_travel.proofs.Common.{◌≡◌, ◌↔◌, ℕ, ◌+◌, ◌<◌, cond, Bool, true, false, IsTrue, Option, Some, None, List, [], ◌∷◌, ◌++◌, length, refl, subst, arith, sum, Color, Placement, Wing, KingSide, QueenSide, State, holds, any_man, plies_left, PriceList, IsFor, charge, PairFits, AllFit, Each, EachExcludes}
 use Rattle.std.specs.List.{AllZip}
-use Rattle.pg_board.specs.declared.man.Color.{Color}
-use Rattle.pg_board.specs.Placement.{Placement}
-use Rattle.pg_position.specs.declared.rights.Wing.{Wing}
-use Rattle.pg_position.specs.declared.rights.Wing.TheVariants.{KingSide, QueenSide}
-use Rattle.pg_position.specs.declared.state.State.{State}
-use Rattle.pg_position.specs.Position.{holds}
-use Rattle.pg_captures.specs.Counting.{any_man}
-use Rattle.pg_captures.specs.Owed.{plies_left}
-use Rattle.pg_captures.specs.PriceLists.{PriceList, IsFor}
-use Rattle.pg_travel.specs.Origins.{charge}
 use Rattle.pg_price_lists.specs.PriceRecords.{list_at}
-use Rattle.pg_travel.specs.inner.PriceTests.{PairFits, AllFit, Each, EachExcludes}
 use Rattle.pg_travel.specs.TravelPrices.{ways_of, TravelPricesFit, WayPricesExclude, TravelPricesExclude}
 
 -- ---- all sources and targets

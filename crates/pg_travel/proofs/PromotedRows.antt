@@ -1,11 +1,7 @@
 -- The table of a pawn's distances to other men is the formulas. Leads to the contract of `promoted`.
-use Rattle.std.proofs.Common.{◌≡◌, ℕ, ◌<◌, ◌/◌, ◌%◌, Bool, true, List, [], get_or, eqb, eqb-true, refl, sym, ap, subst, ◌∙◌}
-use Rattle.pg_board.specs.declared.man.Color.{Color}
-use Rattle.pg_board.specs.declared.man.Color.TheVariants.{White, Black}
+use Rattle.pg_travel.proofs.Common.{◌≡◌, ℕ, ◌<◌, ◌/◌, ◌%◌, Bool, true, List, [], get_or, eqb, eqb-true, refl, sym, ap, subst, ◌∙◌, Color, White, Black, mirrored, knight, bishop, rook, queen, pawn_steps, least_of, pawn_to, all_below, below_at}
 use Rattle.pg_travel.specs.declared.promotion_table.TheConstants.{WHITE_PROMOTED}
-use Rattle.pg_travel.specs.inner.Formulas.{mirrored, knight, bishop, rook, queen, pawn_steps, least_of, pawn_to}
 use Rattle.pg_travel.specs.inner.Promoted.{told, ArePromoted}
-use Rattle.pg_travel.specs.lemmas.PairTests.{all_below, below_at}
 
 abbrev at : List (List ℕ) → ℕ → ℕ → ℕ
 at t i k = get_or (get_or t i []) k 0

@@ -1,23 +1,7 @@
 -- Rows of distances: how they are written, found and read. Leads to the contracts of rows.
-use Rattle.std.proofs.Common.{true, None, Some, Option, ◌&&◌, eqb, ◌≡◌, ◌≢◌, ◌↔◌, ℕ, zero, suc, ◌+◌, ◌-◌, ◌*◌, ◌/◌, ◌%◌, ◌<◌, ◌≤◌, inl, inr, Bool, false, IsTrue, List, [], length, get_or, set, refl, sym, ap, subst, arith, ◌∙◌}
-use Rattle.std.proofs.lemmas.Bool.Decides.{eqb_tells}
-use Rattle.std.proofs.lemmas.List.{get_or-set_same, get_or-set_other}
-use Rattle.std.proofs.Math.ListN.{length-set}
+use Rattle.pg_travel.proofs.Common.{true, None, Some, Option, ◌&&◌, eqb, ◌≡◌, ◌≢◌, ◌↔◌, ℕ, zero, suc, ◌+◌, ◌-◌, ◌*◌, ◌/◌, ◌%◌, ◌<◌, ◌≤◌, inl, inr, Bool, false, IsTrue, List, [], length, get_or, set, refl, sym, ap, subst, arith, ◌∙◌, eqb_tells, get_or-set_same, get_or-set_other, length-set, le_or_l, le_or_r, Color, White, Black, Kind, Man, Pawn, Knight, Bishop, Rook, Queen, King, color_eq, passes, number_of_kind, one, tally_below-none, tally_below-more, tally_below-all, Placement, get, of_color, men, any_man, number_among, IsRow, row_place, IsRowAt, AreRows, AreFirstRows, FitsAt, RowFits}
 use Rattle.std.specs.Int.Bits.{bit_or, or_zero_l}
-use Rattle.std.proofs.lemmas.Nat.{le_or_l, le_or_r}
-use Rattle.pg_board.specs.declared.man.Color.{Color}
-use Rattle.pg_board.specs.declared.man.Color.TheVariants.{White, Black}
-use Rattle.pg_board.specs.declared.man.Kind.{Kind}
-use Rattle.pg_board.specs.declared.man.Man.{Man}
-use Rattle.pg_board.specs.declared.man.Kind.TheVariants.{Pawn, Knight, Bishop, Rook, Queen, King}
-use Rattle.pg_board.specs.Men.{color_eq, passes, number_of_kind}
 use Rattle.pg_board.specs.lemmas.Codes.{kind_of_number, kind_back}
-use Rattle.pg_board.specs.Tally.{one}
-use Rattle.pg_board.specs.lemmas.Tallies.{tally_below-none, tally_below-more, tally_below-all}
-use Rattle.pg_board.specs.Placement.{Placement, get}
-use Rattle.pg_captures.specs.Counting.{of_color, men, any_man}
-use Rattle.pg_captures.specs.PriceLists.{number_among}
-use Rattle.pg_travel.specs.inner.DistanceRows.{IsRow, row_place, IsRowAt, AreRows, AreFirstRows, FitsAt, RowFits}
 
 pub grows : (d : Placement) (c : Color) (low high : ℕ) → low ≤ high → number_among c any_man d low ≤ number_among c any_man d high
 grows d c low zero l = let e : number_among c any_man d low ≡ number_among c any_man d 0 = ap (number_among c any_man d) (let e : low ≡ 0 = omega arith in e) in omega arith

@@ -1,8 +1,5 @@
 -- What holds of either colour, and not of the one asked first.
-use Rattle.std.proofs.Common.{◌≡◌, Bool, true, false, IsTrue, sym, ◌∙◌, subst}
-use Rattle.pg_board.specs.declared.man.Color.{Color}
-use Rattle.pg_board.specs.declared.man.Color.TheVariants.{White, Black}
-use Rattle.pg_board.specs.Men.{other}
+use Rattle.pg_travel.proofs.Common.{◌≡◌, Bool, true, false, IsTrue, sym, ◌∙◌, subst, Color, White, Black, other}
 
 false_true : {A : Type 0} → false ≡ true → A
 false_true e = cc

@@ -1,16 +1,5 @@
 -- Squares without a man of the colour change neither a least number nor a sum.
-use Rattle.std.proofs.Common.{◌≡◌, ◌≢◌, ℕ, zero, suc, ◌<◌, ◌≤◌, inl, inr, Option, Some, None, cond, Bool, false, refl, sym, ap, arith, ◌∙◌}
-use Rattle.std.proofs.lemmas.Bool.Decides.{eqb_tells}
-use Rattle.pg_board.specs.declared.man.Color.{Color}
-use Rattle.pg_board.specs.declared.man.Color.TheVariants.{White, Black}
-use Rattle.pg_board.specs.declared.man.Man.{Man}
-use Rattle.pg_board.specs.Men.{color_eq, is_of}
-use Rattle.pg_board.specs.Placement.{Placement, get}
-use Rattle.pg_board.specs.Bits.{has}
-use Rattle.pg_position.specs.declared.rights.Wing.{Wing}
-use Rattle.pg_board.specs.Tally.{total}
-use Rattle.pg_travel.specs.inner.Formulas.{least_of}
-use Rattle.pg_travel.specs.inner.Costs.{nearest, cost_of, cost}
+use Rattle.pg_travel.proofs.Common.{◌≡◌, ◌≢◌, ℕ, zero, suc, ◌<◌, ◌≤◌, inl, inr, Option, Some, None, cond, Bool, false, refl, sym, ap, arith, ◌∙◌, eqb_tells, Color, White, Black, Man, color_eq, is_of, Placement, get, has, Wing, total, least_of, nearest, cost_of, cost}
 
 pub least_le : (f : ℕ → ℕ) (n : ℕ) → least_of f n ≤ 64
 unfolding least_of

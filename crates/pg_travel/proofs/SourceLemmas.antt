@@ -1,34 +1,10 @@
 -- A source against all targets by its rows of distances. Leads to the contract of `fit_by`.
-use Rattle.std.proofs.Common.{◌≡◌, ◌≢◌, ◌↔◌, ℕ, zero, suc, ◌+◌, ◌-◌, ◌*◌, ◌/◌, ◌%◌, ◌^◌, ◌&&◌, eqb, ltb, lt-ltb, le-ltb, cond, ◌<◌, ◌≤◌, ◌⊎◌, inl, inr, Bool, true, false, IsTrue, Option, Some, None, List, [], ◌∷◌, length, get_or, min, ◌++◌, take, drop, replicate, refl, sym, ap, subst, arith, ◌∙◌}
-use Rattle.std.proofs.lemmas.Bool.Decides.{eqb_tells, leb_tells}
-use Rattle.std.proofs.lemmas.List.{get_or_append_left, get_or-append_right, get_or-take, get_or-drop, get_or-replicate, length-take-le, length-drop}
-use Rattle.pg_board.specs.declared.man.Color.{Color}
-use Rattle.std.proofs.lemmas.Nat.{one_shl}
+use Rattle.pg_travel.proofs.Common.{◌≡◌, ◌≢◌, ◌↔◌, ℕ, zero, suc, ◌+◌, ◌-◌, ◌*◌, ◌/◌, ◌%◌, ◌^◌, ◌&&◌, eqb, ltb, lt-ltb, le-ltb, cond, ◌<◌, ◌≤◌, ◌⊎◌, inl, inr, Bool, true, false, IsTrue, Option, Some, None, List, [], ◌∷◌, length, get_or, min, ◌++◌, take, drop, replicate, refl, sym, ap, subst, arith, ◌∙◌, eqb_tells, leb_tells, get_or_append_left, get_or-append_right, get_or-take, get_or-drop, get_or-replicate, length-take-le, length-drop, Color, one_shl, Kind, Pawn, Knight, Bishop, Rook, Queen, King, Man, has, HasNoneFrom, man, color_eq, is_of, is_man, passes, one, count_below, tally_below, count_below_same, color_decides, is_man_decides, tally_below-none, tally_below-more, tally_below-all, tally_below-le, Placement, get, Wing, Stands, of_color, men, any_man, number_among, price, IsPriced, counted, some_by_steps, walk_bounds, distance_of, PairFits, AllFit, stored, to_stood, IsRow, IsRowFrom, IsReached, FitsAt, RowFits, AreSixteen, ArePages, ArePaged, PageFits, FirstFit, SourceFits, MenFit, SourcesFit}
 use Rattle.std.proofs.lemmas.Nat.Bits.{bit_at_ones, bit_at_ones_above}
-use Rattle.pg_board.specs.declared.man.Kind.{Kind}
-use Rattle.pg_board.specs.declared.man.Kind.TheVariants.{Pawn, Knight, Bishop, Rook, Queen, King}
-use Rattle.pg_board.specs.declared.man.Man.{Man}
-use Rattle.pg_board.specs.Bits.{has}
-use Rattle.pg_board.specs.SquareSets.{HasNoneFrom}
-use Rattle.pg_board.specs.Men.{man, color_eq, is_of, is_man, passes}
-use Rattle.pg_board.specs.Tally.{one, count_below, tally_below}
-use Rattle.pg_board.specs.lemmas.Sums.{count_below_same}
-use Rattle.pg_board.specs.lemmas.Equalities.{color_decides, is_man_decides}
-use Rattle.pg_board.specs.lemmas.Tallies.{tally_below-none, tally_below-more, tally_below-all, tally_below-le}
-use Rattle.pg_board.specs.Placement.{Placement, get}
-use Rattle.pg_position.specs.declared.rights.Wing.{Wing}
-use Rattle.pg_position.specs.Position.{Stands}
-use Rattle.pg_captures.specs.Counting.{of_color, men, any_man}
-use Rattle.pg_captures.specs.PriceLists.{number_among, price, IsPriced}
 use Rattle.pg_captures.specs.lemmas.PlaceLemmas.{passes_like, and-true, marks_men, place_within}
-use Rattle.pg_travel.specs.Origins.{counted}
-use Rattle.pg_travel.specs.lemmas.Pawns.{some_by_steps, walk_bounds}
-use Rattle.pg_travel.specs.inner.Formulas.{distance_of}
-use Rattle.pg_travel.specs.inner.PriceTests.{PairFits, AllFit}
 use Rattle.pg_travel.proofs.RowTables.{up_to_all}
 use Rattle.pg_travel.proofs.Within.{count_skip}
 use Rattle.pg_travel.proofs.TakenSets.{AreAll, IsWithout, other_than}
-use Rattle.pg_travel.specs.inner.DistanceRows.{stored, to_stood, IsRow, IsRowFrom, IsReached, FitsAt, RowFits, AreSixteen, ArePages, ArePaged, PageFits, FirstFit, SourceFits, MenFit, SourcesFit}
 
 -- ---- men by their numbers
 is_there_of : (c : Color) (q : ℕ) (o : Option Man) → passes (of_color c any_man q) o ≡ is_of c o

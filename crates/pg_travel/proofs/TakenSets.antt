@@ -1,10 +1,5 @@
 -- Sets from which the first square is taken until none is left. Leads to the contracts of loops over the men of a kind.
-use Rattle.std.proofs.Common.{◌≡◌, ◌≢◌, ℕ, zero, suc, ◌+◌, ltb, lt-ltb, le-ltb, cond, ◌<◌, ◌≤◌, nat_eq, inl, inr, Bool, true, false, sym, ap, arith, ◌∙◌}
-use Rattle.std.proofs.lemmas.Bool.Decides.{eqb_tells, leb_tells}
-use Rattle.pg_board.specs.Bits.{has}
-use Rattle.pg_board.specs.SquareSets.{IsFirstFrom}
-use Rattle.pg_board.specs.Tally.{one, count_below}
-use Rattle.pg_board.specs.lemmas.Sums.{total-none, total-suc}
+use Rattle.pg_travel.proofs.Common.{◌≡◌, ◌≢◌, ℕ, zero, suc, ◌+◌, ltb, lt-ltb, le-ltb, cond, ◌<◌, ◌≤◌, nat_eq, inl, inr, Bool, true, false, sym, ap, arith, ◌∙◌, eqb_tells, leb_tells, has, IsFirstFrom, one, count_below, total-none, total-suc}
 
 -- what is in the set has Q
 abbrev pub AreAll : (ℕ → Type 0) → ℕ → Type 0

@@ -1,34 +1,6 @@
 -- Sums that stop at a limit. Leads to the contracts of `total_within`, `pays` and `excludes_for`.
-use Rattle.std.proofs.Common.{◌≡◌, ◌≢◌, ℕ, zero, suc, ◌+◌, ◌*◌, ◌<◌, ◌≤◌, ◌⊎◌, ◌&&◌, inl, inr, not, nat_eq, Bool, true, false, cond, Option, Some, None, count_ones, refl, sym, ap, subst, arith, ◌∙◌, IsTrue, ◌↔◌, leb, ◌||◌, min}
-use Rattle.std.proofs.lemmas.Bool.Decides.{eqb_tells, leb_tells}
-use Rattle.std.proofs.lemmas.Bool.{ne_eqb}
-use Rattle.pg_board.specs.declared.man.Color.{Color}
-use Rattle.pg_board.specs.declared.man.Color.TheVariants.{White, Black}
-use Rattle.pg_board.specs.declared.man.Kind.{Kind}
-use Rattle.pg_board.specs.declared.man.Man.{Man}
-use Rattle.pg_board.specs.Bits.{has}
-use Rattle.pg_board.specs.Men.{man, is_of, color_eq}
-use Rattle.pg_board.specs.lemmas.Equalities.{color_decides}
-use Rattle.pg_board.specs.SquareSets.{IsSetOf}
-use Rattle.pg_board.specs.Placement.{Placement, get}
-use Rattle.pg_board.specs.Tally.{one, count_below, total}
-use Rattle.pg_board.specs.lemmas.Sums.{total-suc, total-more, count_below-le}
-use Rattle.pg_position.specs.declared.rights.Wing.{Wing}
-use Rattle.pg_position.specs.declared.rights.Wing.TheVariants.{KingSide, QueenSide}
-use Rattle.pg_position.specs.declared.state.State.{State}
-use Rattle.pg_position.specs.Position.{holds}
-use Rattle.pg_position.specs.Squares.{king_home, rook_home, king_crossed, king_target, IsCastlingHome}
-use Rattle.pg_captures.specs.Owed.{plies_left}
-use Rattle.pg_travel.specs.Origins.{charge, counted}
-use Rattle.pg_travel.specs.inner.Formulas.{distance_of}
-use Rattle.pg_travel.specs.Needs.{NeedIs, TravelTest, ValueIs, HeldBeside, lesser}
-use Rattle.pg_travel.specs.lemmas.NeedLemmas.{test_fails}
-use Rattle.pg_travel.specs.inner.Costs.{reach_of, nearest, cost, SumIs, most_of}
-use Rattle.pg_travel.specs.lemmas.Pawns.{some_by_steps}
-use Rattle.pg_travel.specs.lemmas.Values.{sum_is_value, cost_home, cost_man, counted_low}
-use Rattle.pg_travel.specs.Decided.{sum_of}
+use Rattle.pg_travel.proofs.Common.{◌≡◌, ◌≢◌, ℕ, zero, suc, ◌+◌, ◌*◌, ◌<◌, ◌≤◌, ◌⊎◌, ◌&&◌, inl, inr, not, nat_eq, Bool, true, false, cond, Option, Some, None, count_ones, refl, sym, ap, subst, arith, ◌∙◌, IsTrue, ◌↔◌, leb, ◌||◌, min, eqb_tells, leb_tells, ne_eqb, Color, White, Black, Kind, Man, has, man, is_of, color_eq, color_decides, IsSetOf, Placement, get, one, count_below, total, total-suc, total-more, count_below-le, Wing, KingSide, QueenSide, State, holds, king_home, rook_home, king_crossed, king_target, IsCastlingHome, plies_left, charge, counted, distance_of, NeedIs, TravelTest, ValueIs, HeldBeside, lesser, test_fails, reach_of, nearest, cost, SumIs, most_of, some_by_steps, sum_is_value, cost_home, cost_man, counted_low, sum_of, CostsOnly, CostsEach, SumWithin, IsAbove, PaysIs, CastledIs}
 use Rattle.pg_travel.specs.lemmas.Least.{need_is, test_none, test_some, held_by_value}
-use Rattle.pg_travel.specs.inner.Within.{CostsOnly, CostsEach, SumWithin, IsAbove, PaysIs, CastledIs}
 use Rattle.pg_travel.proofs.Nearness.{least_above}
 use Rattle.pg_travel.proofs.Skips.{IsOwn, cost_off, sum_skip}
 

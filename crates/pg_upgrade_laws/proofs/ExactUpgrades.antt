@@ -1,18 +1,7 @@
 -- Bytes are upgraded exactly where they are a certificate of version 1. Leads to the law of that.
-use Rattle.std.proofs.Common.{◌≡◌, ℕ, zero, suc, ◌+◌, ◌-◌, ◌≤◌, inl, inr, true, false, eqb, cond, List, [], ◌∷◌, ◌++◌, length, Result, Ok, Err, refl, sym, ap, subst, ◌∙◌, append-nil, arith}
-use Rattle.std.proofs.lemmas.Bool.Decides.{eqb_tells}
-use Rattle.std.proofs.lemmas.List.Elements.{All-nil, All-cons}
-use Rattle.std.specs.List.{flat_map}
-use Rattle.pg_certificate.specs.declared.fault.ReadFault.{ReadFault}
-use Rattle.pg_certificate.specs.declared.record.Header.{Header}
-use Rattle.pg_certificate.specs.declared.record.Record.{Record}
-use Rattle.pg_certificate.specs.Reading.{header_at, record_at}
-use Rattle.pg_certificate.specs.Spelling.{AreBytes, spelling, header_spelling, IsRecordOf}
-use Rattle.pg_certificate.proofs.HeaderLaws.{headers_again, headers_only}
-use Rattle.pg_certificate.proofs.RecordLaws.{records_taken}
-use Rattle.pg_texts.specs.declared.fault.UpgradeFault.TheVariants.{NotVersion1}
-use Rattle.pg_texts.specs.Upgrade.{◌>>=◌, Certificate1, certificate_bytes, with_digit_2, IsUpgraded, one_more, records_in, upgrade_of}
-use Rattle.pg_texts.proofs.UpgradeLemmas.{Counted, AreRecords, behind, front_read, none_in, after_more, more_none}
+use Rattle.pg_upgrade_laws.proofs.Common.{◌≡◌, ℕ, zero, suc, ◌+◌, ◌-◌, ◌≤◌, inl, inr, true, false, eqb, cond, List, [], ◌∷◌, ◌++◌, length, Result, Ok, Err, refl, sym, ap, subst, ◌∙◌, append-nil, arith, eqb_tells, All-nil, All-cons, flat_map, ReadFault, Header, Record, header_at, record_at, AreBytes, header_spelling, IsRecordOf, headers_again, headers_only, records_taken, NotVersion1, Certificate1, certificate_bytes, with_digit_2, IsUpgraded, one_more, records_in, upgrade_of, Counted, AreRecords, behind, front_read, none_in, after_more, more_none}
+use Rattle.pg_certificate.specs.Spelling.{spelling}
+use Rattle.pg_texts.specs.Upgrade.{◌>>=◌}
 
 -- ---- a certificate is upgraded
 abbrev pub counted : ℕ → Header × List ℕ → Counted

@@ -1,3 +1,4 @@
+mod Common
 mod ExactUpgrades
 mod UpgradedFits
 mod Nodes

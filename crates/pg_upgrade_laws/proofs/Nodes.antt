@@ -1,13 +1,8 @@
 -- The records of a certificate that fits, in their order. Leads to the law that it is upgraded.
-use Rattle.std.proofs.Common.{◌≡◌, ℕ, zero, suc, ◌+◌, Bool, true, List, [], ◌∷◌, ◌++◌, length, All, refl, ap, ◌∙◌, append-nil}
+use Rattle.pg_upgrade_laws.proofs.Common.{◌≡◌, ℕ, zero, suc, ◌+◌, Bool, true, List, [], ◌∷◌, ◌++◌, length, All, refl, ap, ◌∙◌, append-nil, length-append, All-nil, All-cons, All-append, flat_map, Record, Tree, Trees, Leaf, Empty, First, Entry, Rules, closed, Fits, FitAll, spelling_all, records, records_all, FitFrom, IsCertificate}
 use Rattle.std.proofs.lemmas.Grind.{flat_map-append}
-use Rattle.std.proofs.lemmas.List.{length-append}
-use Rattle.std.proofs.lemmas.List.Elements.{All-nil, All-cons, All-append}
-use Rattle.std.specs.List.{flat_map}
-use Rattle.pg_certificate.specs.declared.record.Record.{Record}
 use Rattle.pg_certificate.specs.declared.record.Record.TheVariants.{Expand as Expanded, Cut as CutBy, Ref as RefTo, Priced as PricedBy}
-use Rattle.pg_checker.specs.Tree.{Tree, Trees, Leaf, Expand, Cut, Ref, Priced, Empty, First, Entry, Rules, closed, Fits, FitAll, spelling, spelling_all, records, records_all}
-use Rattle.pg_checker.specs.Claims.{FitFrom, IsCertificate}
+use Rattle.pg_checker.specs.Tree.{Expand, Cut, Ref, Priced, spelling}
 
 -- the records of a tree, in preorder
 abbrev mutual

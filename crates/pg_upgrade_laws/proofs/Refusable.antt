@@ -1,12 +1,9 @@
 -- Reading a record refuses by two names alone, and reading a header by two. Leads to the law of refused upgrades.
-use Rattle.std.proofs.Common.{ℕ, Bool, true, false, cond, eqb, ltb, List, [], ◌∷◌, length, take, drop, Result, Ok, Err}
+use Rattle.pg_upgrade_laws.proofs.Common.{ℕ, Bool, true, false, cond, eqb, ltb, List, [], ◌∷◌, length, take, drop, Result, Ok, Err, ReadFault, Header, Record, byte_at, exactly, number_at, record_at, header_of, header_or_magic, header_at}
 use Rattle.std.specs.Prelude.{Option, Some, None}
-use Rattle.pg_certificate.specs.declared.fault.ReadFault.{ReadFault}
 use Rattle.pg_certificate.specs.declared.fault.ReadFault.TheVariants.{Truncated, Magic, UnknownRecord}
-use Rattle.pg_certificate.specs.declared.record.Header.{Header}
-use Rattle.pg_certificate.specs.declared.record.Record.{Record}
 use Rattle.pg_certificate.specs.declared.record.Record.TheVariants.{Expand, Cut, Ref}
-use Rattle.pg_certificate.specs.Reading.{◌>>=◌, byte_at, exactly, number_at, record_at, header_of, header_or_magic, header_at}
+use Rattle.pg_certificate.specs.Reading.{◌>>=◌}
 
 -- a refusal that a record can have
 abbrev pub OfRecord : ReadFault → Type 0

@@ -1,23 +1,10 @@
 -- Where an upgrade is refused. Leads to the law of that.
-use Rattle.std.proofs.Common.{◌≡◌, ◌≢◌, ℕ, zero, suc, ◌+◌, ◌-◌, ◌<◌, ◌≤◌, ◌⊎◌, inl, inr, false, eqb, cond, List, [], ◌∷◌, ◌++◌, length, Result, Ok, Err, refl, sym, ap, subst, ◌∙◌, append_assoc, arith}
-use Rattle.std.proofs.lemmas.Bool.Decides.{eqb_tells}
-use Rattle.std.proofs.lemmas.List.{length-append}
-use Rattle.std.proofs.lemmas.List.Elements.{All-nil, All-cons}
-use Rattle.std.specs.List.{flat_map}
-use Rattle.pg_certificate.specs.declared.fault.ReadFault.{ReadFault}
+use Rattle.pg_upgrade_laws.proofs.Common.{◌≡◌, ◌≢◌, ℕ, zero, suc, ◌+◌, ◌-◌, ◌<◌, ◌≤◌, ◌⊎◌, inl, inr, false, eqb, cond, List, [], ◌∷◌, ◌++◌, length, Result, Ok, Err, refl, sym, ap, subst, ◌∙◌, append_assoc, arith, eqb_tells, length-append, All-nil, All-cons, flat_map, ReadFault, Header, Record, header_at, record_at, AreBytes, header_spelling, IsHeader, IsRecordOf, headers_again, headers_only, headers_refused, records_taken, truncated_is_short, short_is_truncated, unknown_at, at_unknown, Truncated, NotVersion1, UnknownRecord, Budget, Certificate1, certificate_bytes, upgrade_fault_of, one_more, records_in, upgrade_of, IsLeftBehind, RefusesUpgrade, Counted, AreRecords, behind, front_read, after_more, more_err}
 use Rattle.pg_certificate.specs.declared.fault.ReadFault.TheVariants as reading
-use Rattle.pg_certificate.specs.declared.record.Header.{Header}
-use Rattle.pg_certificate.specs.declared.record.Record.{Record}
 use Rattle.pg_certificate.specs.Laws.{IsCutShort, IsUnknownAt}
-use Rattle.pg_certificate.specs.Reading.{header_at, record_at}
-use Rattle.pg_certificate.specs.Spelling.{AreBytes, spelling, header_spelling, IsHeader, IsRecordOf}
-use Rattle.pg_certificate.proofs.HeaderLaws.{headers_again, headers_only, headers_refused}
-use Rattle.pg_certificate.proofs.RecordLaws.{records_taken, truncated_is_short, short_is_truncated, unknown_at, at_unknown}
+use Rattle.pg_certificate.specs.Spelling.{spelling}
 use Rattle.pg_texts.specs.declared.fault.UpgradeFault.{UpgradeFault}
-use Rattle.pg_texts.specs.declared.fault.UpgradeFault.TheVariants.{Truncated, NotVersion1, UnknownRecord, Budget}
-use Rattle.pg_texts.specs.Upgrade.{◌>>=◌, Certificate1, certificate_bytes, upgrade_fault_of, one_more, records_in, upgrade_of}
-use Rattle.pg_upgrade_laws.specs.UpgradeLaws.{IsLeftBehind, RefusesUpgrade}
-use Rattle.pg_texts.proofs.UpgradeLemmas.{Counted, AreRecords, behind, front_read, after_more, more_err}
+use Rattle.pg_texts.specs.Upgrade.{◌>>=◌}
 use Rattle.pg_upgrade_laws.proofs.ExactUpgrades.{counted, bytes_behind}
 use Rattle.pg_upgrade_laws.proofs.Refusable.{OfRecord, OfHeader, Only, only_record, only_header}
 

@@ -1,6 +1,5 @@
 -- A certificate of version 1 fits as one of version 2. Leads to the law of that.
-use Rattle.std.proofs.Common.{◌≡◌, ℕ, ◌+◌, inl, inr, Bool, true, List, ◌++◌, length, get_or, All, refl, sym, ap, subst, ◌∙◌, arith}
-use Rattle.std.proofs.lemmas.List.Elements.{All-weaker}
+use Rattle.pg_upgrade_laws.proofs.Common.{◌≡◌, ℕ, ◌+◌, inl, inr, Bool, true, List, ◌++◌, length, get_or, All, refl, sym, ap, subst, ◌∙◌, arith, All-weaker, Record, header_spelling, IsRecordOf, IsCertificate, Rules, spelling_all, Certificate1, certificate_bytes, with_digit_2, upgrade_of, UpgradedIsCertified, CertifiedIsUpgraded}
 use Rattle.std.proofs.lemmas.List.FromFn.{length-map-range_with_len}
 use Rattle.pg_board.specs.Placement.{Placement}
 use Rattle.pg_position.specs.declared.state.State.{State}
@@ -8,18 +7,12 @@ use Rattle.pg_position.specs.declared.moves.Move.{Move}
 use Rattle.pg_position.specs.Array.{array_state}
 use Rattle.pg_position.specs.lemmas.Equalities.{state_eq_decides}
 use Rattle.pg_fen.specs.Packing.{packed_byte, packed_of}
-use Rattle.pg_certificate.specs.declared.record.Record.{Record}
 use Rattle.pg_certificate.specs.declared.record.Record.TheVariants.{Expand, Cut, Ref, Priced}
-use Rattle.pg_certificate.specs.Spelling.{header_spelling, IsRecordOf}
 use Rattle.pg_checker.specs.Check.{header_for}
 use Rattle.pg_checker.specs.Chess.{Cuts, chess, chess_with, is_spelled, read, stands_for}
-use Rattle.pg_checker.specs.Claims.{IsCertificate}
 use Rattle.pg_checker.specs.Equality.{lists}
 use Rattle.pg_checker.specs.Futures.{effective, future_eq}
-use Rattle.pg_checker.specs.Tree.{Rules, spelling_all}
 use Rattle.pg_checker.proofs.Reading.{spelled_record}
-use Rattle.pg_texts.specs.Upgrade.{Certificate1, certificate_bytes, with_digit_2, upgrade_of}
-use Rattle.pg_upgrade_laws.specs.UpgradeLaws.{UpgradedIsCertified, CertifiedIsUpgraded}
 use Rattle.pg_checker.proofs.Wider.{all_spelled_same, certificate_wider}
 use Rattle.pg_upgrade_laws.proofs.Nodes.{all_nodes, many_all_nodes, all_nodes_spelled, certificate_nodes}
 use Rattle.pg_upgrade_laws.proofs.ExactUpgrades.{certificate_counted}

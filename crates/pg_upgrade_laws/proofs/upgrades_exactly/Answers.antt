@@ -1,5 +1,5 @@
 use Rattle.pg_upgrade_laws.proofs.ExactUpgrades.{counted_whole, counted_back}
-use Rattle.pg_texts.specs.Upgrade.{with_digit_2}
+use Rattle.pg_upgrade_laws.proofs.Common.{with_digit_2}
 use Rattle.pg_upgrade_laws.proofs.upgrades_exactly.Goals as goal
 
 pub returns : goal.returns

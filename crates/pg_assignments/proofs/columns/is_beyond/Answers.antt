@@ -1,4 +1,4 @@
-use Rattle.std.proofs.Common.{◌+◌, ◌-◌, ◌*◌, ◌<◌, ltb-true, arith}
+use Rattle.pg_assignments.proofs.Common.{◌+◌, ◌-◌, ◌*◌, ◌<◌, ltb-true, arith}
 use Rattle.pg_assignments.proofs.TableLemmas.{beyond_columns}
 use Rattle.pg_assignments.proofs.columns.is_beyond.Goals as goal
 

@@ -1,4 +1,4 @@
-use Rattle.std.proofs.Common.{◌+◌, refl}
+use Rattle.pg_assignments.proofs.Common.{◌+◌, refl}
 use Rattle.pg_assignments.proofs.TestLemmas.{below_next}
 use Rattle.pg_assignments.proofs.columns.least_of_columns.Goals as goal
 

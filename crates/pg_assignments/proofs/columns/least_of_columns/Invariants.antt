@@ -1,5 +1,4 @@
-use Rattle.pg_assignments.specs.Assignments.{cost}
-use Rattle.pg_assignments.specs.Dual.{AreBelow}
+use Rattle.pg_assignments.proofs.Common.{cost, AreBelow}
 use Rattle.pg_assignments.proofs.columns.least_of_columns.Given as goal
 
 abbrev pub invariant-loop-i : goal.invariant-loop-i

@@ -1,5 +1,4 @@
-use Rattle.std.proofs.Common.{◌≡◌, length}
-use Rattle.pg_assignments.specs.Dual.{AreAtMost}
+use Rattle.pg_assignments.proofs.Common.{◌≡◌, length, AreAtMost}
 use Rattle.pg_assignments.proofs.columns.lesser.Given as goal
 
 abbrev pub invariant-loop-j : goal.invariant-loop-j

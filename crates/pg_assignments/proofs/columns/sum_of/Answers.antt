@@ -1,6 +1,4 @@
-use Rattle.std.proofs.Common.{sym, arith}
-use Rattle.pg_assignments.specs.Assignments.{nth}
-use Rattle.pg_board.specs.lemmas.Sums.{total-none, total-more}
+use Rattle.pg_assignments.proofs.Common.{sym, arith, nth, total-none, total-more}
 use Rattle.pg_assignments.proofs.columns.sum_of.Goals as goal
 
 pub loop-j-init : goal.loop-j-init

@@ -1,6 +1,4 @@
-use Rattle.std.proofs.Common.{◌≡◌, ◌*◌, ◌≤◌}
-use Rattle.pg_board.specs.Tally.{total}
-use Rattle.pg_assignments.specs.Assignments.{nth}
+use Rattle.pg_assignments.proofs.Common.{◌≡◌, ◌*◌, ◌≤◌, total, nth}
 use Rattle.pg_assignments.proofs.columns.sum_of.Given as goal
 
 abbrev pub invariant-loop-j : goal.invariant-loop-j

@@ -1,6 +1,4 @@
-use Rattle.std.proofs.Common.{◌≡◌, ◌≤◌, ◌-◌, ◌*◌, ◌+◌, Some, false, set, refl, sym, subst, arith, ◌∙◌}
-use Rattle.pg_assignments.specs.Assignments.{cost, IsLeast, IsTotal}
-use Rattle.pg_assignments.specs.Search.{IsFree, IsVia}
+use Rattle.pg_assignments.proofs.Common.{◌≡◌, ◌≤◌, ◌-◌, ◌*◌, ◌+◌, Some, false, set, refl, sym, subst, arith, ◌∙◌, cost, IsLeast, IsTotal, IsFree, IsVia}
 use Rattle.pg_assignments.proofs.LeastLemmas.{some_holds}
 use Rattle.pg_assignments.proofs.SearchLemmas.{IsViaBelow, total_low, below_none, below_next, below_all, free_low, via_no_cost, via_not_free, via_none_left, via_left, no_rows}
 use Rattle.pg_assignments.proofs.exact.+exact.Goals.{via-then-cost-via-then-cost, via-then-cost-via-else-cost+then-not-free-column}

@@ -1,6 +1,4 @@
-use Rattle.std.proofs.Common.{◌+◌, ◌*◌}
-use Rattle.pg_assignments.specs.Assignments.{cost, IsLeast}
-use Rattle.pg_assignments.specs.Search.{IsFree}
+use Rattle.pg_assignments.proofs.Common.{◌+◌, ◌*◌, cost, IsLeast, IsFree}
 use Rattle.pg_assignments.proofs.SearchLemmas.{IsViaBelow}
 use Rattle.pg_assignments.proofs.exact.+exact.Given as goal
 

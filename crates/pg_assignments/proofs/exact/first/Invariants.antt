@@ -1,5 +1,4 @@
-use Rattle.std.proofs.Common.{◌≡◌, ◌↔◌, ℕ, ◌<◌, length}
-use Rattle.pg_assignments.specs.Search.{IsFree}
+use Rattle.pg_assignments.proofs.Common.{◌≡◌, ◌↔◌, ℕ, ◌<◌, length, IsFree}
 use Rattle.pg_assignments.proofs.exact.first.Given as goal
 
 abbrev pub invariant-loop-j : goal.invariant-loop-j

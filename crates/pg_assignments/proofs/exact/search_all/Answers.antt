@@ -1,5 +1,4 @@
-use Rattle.pg_assignments.specs.Assignments.{cost, Below}
-use Rattle.pg_assignments.specs.Search.{IsFree}
+use Rattle.pg_assignments.proofs.Common.{cost, Below, IsFree}
 use Rattle.pg_assignments.proofs.SearchLemmas.{least_to}
 use Rattle.pg_assignments.proofs.exact.search_all.Goals as goal
 

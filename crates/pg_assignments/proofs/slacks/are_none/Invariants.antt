@@ -1,5 +1,4 @@
-use Rattle.std.proofs.Common.{◌≡◌, true}
-use Rattle.pg_assignments.specs.Handing.{AreNone}
+use Rattle.pg_assignments.proofs.Common.{◌≡◌, true, AreNone}
 use Rattle.pg_assignments.proofs.slacks.are_none.Given as goal
 
 abbrev pub invariant-loop-q : goal.invariant-loop-q

@@ -1,7 +1,4 @@
-use Rattle.std.proofs.Common.{◌≡◌, length}
-use Rattle.pg_assignments.specs.Assignments.{cost, nth}
-use Rattle.pg_assignments.specs.Dual.{Fits}
-use Rattle.pg_assignments.specs.Handing.{AreNone, IsSlackIf}
+use Rattle.pg_assignments.proofs.Common.{◌≡◌, length, cost, nth, Fits, AreNone, IsSlackIf}
 use Rattle.pg_assignments.proofs.slacks.find_slacks.Given as goal
 
 abbrev pub invariant-loop-i : goal.invariant-loop-i

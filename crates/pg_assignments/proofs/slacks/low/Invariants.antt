@@ -1,5 +1,4 @@
-use Rattle.std.proofs.Common.{◌≡◌, true}
-use Rattle.pg_assignments.specs.Handing.{AreWithin}
+use Rattle.pg_assignments.proofs.Common.{◌≡◌, true, AreWithin}
 use Rattle.pg_assignments.proofs.slacks.low.Given as goal
 
 abbrev pub invariant-loop-q : goal.invariant-loop-q

@@ -1,5 +1,4 @@
-use Rattle.std.proofs.Common.{◌≡◌, length}
-use Rattle.pg_assignments.specs.Handing.{IsOverRow}
+use Rattle.pg_assignments.proofs.Common.{◌≡◌, length, IsOverRow}
 use Rattle.pg_assignments.proofs.slacks.over_row.Given as goal
 
 abbrev pub invariant-loop-q : goal.invariant-loop-q

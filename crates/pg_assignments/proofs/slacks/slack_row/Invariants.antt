@@ -1,5 +1,4 @@
-use Rattle.std.proofs.Common.{◌≡◌, length}
-use Rattle.pg_assignments.specs.Handing.{IsSlackRow}
+use Rattle.pg_assignments.proofs.Common.{◌≡◌, length, IsSlackRow}
 use Rattle.pg_assignments.proofs.slacks.slack_row.Given as goal
 
 abbrev pub invariant-loop-q : goal.invariant-loop-q

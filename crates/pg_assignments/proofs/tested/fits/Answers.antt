@@ -1,4 +1,4 @@
-use Rattle.std.proofs.Common.{refl, ◌+◌}
+use Rattle.pg_assignments.proofs.Common.{refl, ◌+◌}
 use Rattle.pg_assignments.proofs.TestLemmas.{fits_next}
 use Rattle.pg_assignments.proofs.tested.fits.Goals as goal
 

@@ -1,5 +1,4 @@
-use Rattle.pg_assignments.specs.Assignments.{cost, nth}
-use Rattle.pg_assignments.specs.Dual.{Fits}
+use Rattle.pg_assignments.proofs.Common.{cost, nth, Fits}
 use Rattle.pg_assignments.proofs.tested.fits.Given as goal
 
 abbrev pub invariant-loop-i : goal.invariant-loop-i

@@ -1,5 +1,4 @@
-use Rattle.std.proofs.Common.{refl, arith}
-use Rattle.pg_assignments.specs.Assignments.{cost, nth}
+use Rattle.pg_assignments.proofs.Common.{refl, arith, cost, nth}
 use Rattle.pg_assignments.proofs.DualLemmas.{reached, beyond}
 use Rattle.pg_assignments.proofs.tested.judged.Goals as goal
 

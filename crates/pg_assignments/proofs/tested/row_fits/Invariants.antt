@@ -1,5 +1,4 @@
-use Rattle.std.proofs.Common.{◌≡◌, true}
-use Rattle.pg_assignments.specs.Dual.{RowFits}
+use Rattle.pg_assignments.proofs.Common.{◌≡◌, true, RowFits}
 use Rattle.pg_assignments.proofs.tested.row_fits.Given as goal
 
 abbrev pub invariant-loop-j : goal.invariant-loop-j

@@ -1,6 +1,4 @@
-use Rattle.std.proofs.Common.{◌≡◌, ◌*◌, ◌≤◌}
-use Rattle.pg_board.specs.Tally.{total}
-use Rattle.pg_assignments.specs.Assignments.{nth}
+use Rattle.pg_assignments.proofs.Common.{◌≡◌, ◌*◌, ◌≤◌, total, nth}
 use Rattle.pg_assignments.proofs.tested.sum.Given as goal
 
 abbrev pub invariant-loop-i : goal.invariant-loop-i

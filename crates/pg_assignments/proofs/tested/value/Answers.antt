@@ -1,8 +1,4 @@
-use Rattle.std.proofs.Common.{◌≡◌, ◌<◌, ◌+◌, sym, ap, subst, refl, arith, ◌∙◌}
-use Rattle.pg_board.specs.Tally.{total}
-use Rattle.pg_assignments.specs.Assignments.{cost, sum_of, nth}
-use Rattle.pg_assignments.specs.Handing.{AreHeld}
-use Rattle.pg_board.specs.lemmas.Sums.{total-none, total-more}
+use Rattle.pg_assignments.proofs.Common.{◌≡◌, ◌<◌, ◌+◌, sym, ap, subst, refl, arith, ◌∙◌, total, cost, sum_of, nth, AreHeld, total-none, total-more}
 use Rattle.pg_assignments.proofs.TestLemmas.{held_next, exists_next, assigned_held, owned_held}
 use Rattle.pg_assignments.proofs.tested.value.Goals as goal
 

@@ -1,6 +1,4 @@
-use Rattle.std.proofs.Common.{◌≡◌, ◌*◌, ◌<◌, ◌≤◌, ℕ}
-use Rattle.pg_assignments.specs.Assignments.{cost, sum_of, nth}
-use Rattle.pg_assignments.specs.Handing.{AreHeld}
+use Rattle.pg_assignments.proofs.Common.{◌≡◌, ◌*◌, ◌<◌, ◌≤◌, ℕ, cost, sum_of, nth, AreHeld}
 use Rattle.pg_assignments.proofs.tested.value.Given as goal
 
 abbrev pub invariant-loop-i : goal.invariant-loop-i

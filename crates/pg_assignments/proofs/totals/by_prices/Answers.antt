@@ -1,4 +1,4 @@
-use Rattle.std.proofs.Common.{refl}
+use Rattle.pg_assignments.proofs.Common.{refl}
 use Rattle.pg_assignments.proofs.totals.by_prices.Goals as goal
 
 pub returns-else-found-clause-none : goal.returns-else-found-clause-none

@@ -1,4 +1,4 @@
-use Rattle.std.proofs.Common.{arith}
+use Rattle.pg_assignments.proofs.Common.{arith}
 use Rattle.pg_assignments.proofs.TableLemmas.{beyond_none, beyond_some}
 use Rattle.pg_assignments.proofs.totals.by_searches.Goals as goal
 

@@ -1,4 +1,4 @@
-use Rattle.std.proofs.Common.{refl, arith}
+use Rattle.pg_assignments.proofs.Common.{refl, arith}
 use Rattle.pg_assignments.proofs.TableLemmas.{beyond_prices}
 use Rattle.pg_assignments.proofs.ToldLemmas.{proved_least}
 use Rattle.pg_assignments.proofs.totals.found.Goals as goal

@@ -1,4 +1,4 @@
-use Rattle.std.proofs.Common.{◌≡◌, length}
+use Rattle.pg_assignments.proofs.Common.{◌≡◌, length}
 use Rattle.pg_assignments.proofs.WayLemmas.{AreBegun}
 use Rattle.pg_assignments.proofs.ways.begin.Given as goal
 

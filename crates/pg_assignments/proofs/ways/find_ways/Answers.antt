@@ -1,4 +1,4 @@
-use Rattle.std.proofs.Common.{◌+◌, refl}
+use Rattle.pg_assignments.proofs.Common.{◌+◌, refl}
 use Rattle.pg_assignments.proofs.WayLemmas.{ways_next}
 use Rattle.pg_assignments.proofs.ways.find_ways.Goals as goal
 

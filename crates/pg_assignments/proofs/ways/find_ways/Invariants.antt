@@ -1,4 +1,4 @@
-use Rattle.pg_assignments.specs.Ways.{AreWays}
+use Rattle.pg_assignments.proofs.Common.{AreWays}
 use Rattle.pg_assignments.proofs.ways.find_ways.Given as goal
 
 abbrev pub invariant-loop-m : goal.invariant-loop-m

@@ -1,5 +1,4 @@
-use Rattle.std.proofs.Common.{◌≡◌, length}
-use Rattle.pg_assignments.specs.Ways.{AreSixteenths}
+use Rattle.pg_assignments.proofs.Common.{◌≡◌, length, AreSixteenths}
 use Rattle.pg_assignments.proofs.ways.lengths_to.Given as goal
 
 abbrev pub invariant-loop-q : goal.invariant-loop-q

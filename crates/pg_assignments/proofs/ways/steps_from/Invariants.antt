@@ -1,5 +1,4 @@
-use Rattle.std.proofs.Common.{◌≡◌, length}
-use Rattle.pg_assignments.specs.Ways.{AreKeys}
+use Rattle.pg_assignments.proofs.Common.{◌≡◌, length, AreKeys}
 use Rattle.pg_assignments.proofs.ways.steps_from.Given as goal
 
 abbrev pub invariant-loop-t : goal.invariant-loop-t

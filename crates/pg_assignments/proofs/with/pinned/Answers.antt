@@ -1,4 +1,4 @@
-use Rattle.std.proofs.Common.{arith}
+use Rattle.pg_assignments.proofs.Common.{arith}
 use Rattle.pg_assignments.proofs.PinnedLemmas.{pinned_by, no_costs, no_costs_at}
 use Rattle.pg_assignments.proofs.with.pinned.Goals as goal
 

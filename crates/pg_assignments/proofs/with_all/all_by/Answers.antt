@@ -1,7 +1,4 @@
-use Rattle.std.proofs.Common.{ℕ, ◌+◌, refl, subst, arith, ◌∙◌}
-use Rattle.std.proofs.Math.ListN.{length-set}
-use Rattle.pg_assignments.specs.Assignments.{nth}
-use Rattle.pg_assignments.specs.Ways.{AreSixteenths}
+use Rattle.pg_assignments.proofs.Common.{ℕ, ◌+◌, refl, subst, arith, ◌∙◌, length-set, nth, AreSixteenths}
 use Rattle.pg_assignments.proofs.ToldLemmas.{rows_next, least_by}
 use Rattle.pg_assignments.proofs.with_all.all_by.Goals as goal
 

@@ -1,5 +1,4 @@
-use Rattle.std.proofs.Common.{◌≡◌, length}
-use Rattle.pg_assignments.specs.Assignments.{AreLeastWith}
+use Rattle.pg_assignments.proofs.Common.{◌≡◌, length, AreLeastWith}
 use Rattle.pg_assignments.proofs.with_all.all_by.Given as goal
 
 abbrev pub invariant-loop-i : goal.invariant-loop-i

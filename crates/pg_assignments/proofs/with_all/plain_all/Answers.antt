@@ -1,5 +1,4 @@
-use Rattle.std.proofs.Common.{◌+◌, refl, arith, ◌∙◌}
-use Rattle.std.proofs.Math.ListN.{length-set}
+use Rattle.pg_assignments.proofs.Common.{◌+◌, refl, arith, ◌∙◌, length-set}
 use Rattle.pg_assignments.proofs.ToldLemmas.{rows_next}
 use Rattle.pg_assignments.proofs.with_all.plain_all.Goals as goal
 

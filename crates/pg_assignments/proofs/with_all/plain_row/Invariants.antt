@@ -1,5 +1,4 @@
-use Rattle.std.proofs.Common.{◌≡◌, length}
-use Rattle.pg_assignments.specs.Assignments.{RowLeast}
+use Rattle.pg_assignments.proofs.Common.{◌≡◌, length, RowLeast}
 use Rattle.pg_assignments.proofs.with_all.plain_row.Given as goal
 
 abbrev pub invariant-loop-j : goal.invariant-loop-j

@@ -1,5 +1,4 @@
-use Rattle.std.proofs.Common.{arith}
-use Rattle.pg_assignments.specs.Assignments.{cost, nth}
+use Rattle.pg_assignments.proofs.Common.{arith, cost, nth}
 use Rattle.pg_assignments.proofs.DualLemmas.{beyond}
 use Rattle.pg_assignments.proofs.with_all.shows_none.Goals as goal
 

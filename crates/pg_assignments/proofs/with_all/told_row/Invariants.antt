@@ -1,5 +1,4 @@
-use Rattle.std.proofs.Common.{◌≡◌, length}
-use Rattle.pg_assignments.specs.Handing.{AreTold}
+use Rattle.pg_assignments.proofs.Common.{◌≡◌, length, AreTold}
 use Rattle.pg_assignments.proofs.with_all.told_row.Given as goal
 
 abbrev pub invariant-loop-q : goal.invariant-loop-q

@@ -1,4 +1,4 @@
-use Rattle.std.proofs.Common.{sym, ◌∙◌}
+use Rattle.pg_captures.proofs.Common.{sym, ◌∙◌}
 use Rattle.pg_captures.proofs.boxes.ask.Goals as goal
 
 -- a yes of a bound behind a box is what its law speaks of

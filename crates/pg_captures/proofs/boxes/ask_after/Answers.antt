@@ -1,5 +1,4 @@
-use Rattle.std.proofs.Common.{sym, ◌∙◌}
-use Rattle.pg_position.proofs.FutureLemmas.{legal_position}
+use Rattle.pg_captures.proofs.Common.{sym, ◌∙◌, legal_position}
 use Rattle.pg_captures.proofs.boxes.ask_after.Goals as goal
 
 -- a yes of a bound behind a box is what its law speaks of

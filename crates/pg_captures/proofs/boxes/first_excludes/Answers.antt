@@ -1,4 +1,4 @@
-use Rattle.std.proofs.Common.{sym, ◌∙◌}
+use Rattle.pg_captures.proofs.Common.{sym, ◌∙◌}
 use Rattle.pg_captures.proofs.FirstLemmas.{first_here, said_of_first}
 use Rattle.pg_captures.proofs.boxes.first_excludes.Goals as goal
 

@@ -1,5 +1,4 @@
-use Rattle.std.proofs.Common.{◌≡◌, drop}
-use Rattle.pg_captures.specs.Lists.{first_of}
+use Rattle.pg_captures.proofs.Common.{◌≡◌, drop, first_of}
 use Rattle.pg_captures.proofs.boxes.first_excludes.Given as goal
 
 -- the first bound of the code is among those that are left

@@ -1,6 +1,4 @@
-use Rattle.std.proofs.Common.{◌≡◌, ap, ◌∙◌}
-use Rattle.pg_board.specs.Men.{other}
-use Rattle.pg_captures.specs.Owed.{plies_left, victims}
+use Rattle.pg_captures.proofs.Common.{◌≡◌, ap, ◌∙◌, other, plies_left, victims}
 use Rattle.pg_captures.proofs.TakingTold.{off_like, mine_told, theirs_told}
 use Rattle.pg_captures.proofs.captures.captures_hold_after.Goals as goal
 

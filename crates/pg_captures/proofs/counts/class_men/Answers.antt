@@ -1,4 +1,4 @@
-use Rattle.pg_captures.specs.Counting.{of_color, in_class}
+use Rattle.pg_captures.proofs.Common.{of_color, in_class}
 use Rattle.pg_captures.proofs.TallyLemmas.{tally_set}
 use Rattle.pg_captures.proofs.counts.class_men.Goals as goal
 

@@ -1,10 +1,4 @@
-use Rattle.std.proofs.Common.{sym, ap, ◌∙◌}
-use Rattle.pg_board.specs.Squares.{is_light, is_dark}
-use Rattle.pg_board.specs.Men.{passes}
-use Rattle.pg_board.specs.Placement.{get}
-use Rattle.pg_captures.specs.declared.classes.Class.TheVariants.{Queens, Rooks, Knights, LightBishops, DarkBishops}
-use Rattle.pg_board.specs.declared.man.Kind.TheVariants.{Knight, Bishop, Rook, Queen}
-use Rattle.pg_captures.specs.Counting.{of_color, in_class}
+use Rattle.pg_captures.proofs.Common.{sym, ap, ◌∙◌, is_light, is_dark, passes, get, Queens, Rooks, Knights, LightBishops, DarkBishops, Knight, Bishop, Rook, Queen, of_color, in_class}
 use Rattle.pg_captures.proofs.TallyLemmas.{kind_set, queens_like, rooks_like, knights_like, masked_set, light_like, dark_like}
 use Rattle.pg_captures.proofs.counts.class_set.Goals as goal
 

@@ -1,5 +1,4 @@
-use Rattle.std.proofs.Common.{◌≤◌, ap, ◌∙◌, subst, sym, ℕ}
-use Rattle.pg_board.specs.Tally.{count_of}
+use Rattle.pg_captures.proofs.Common.{◌≤◌, ap, ◌∙◌, subst, sym, ℕ, count_of}
 use Rattle.pg_board.specs.lemmas.Tallies.{tally-le}
 use Rattle.pg_captures.proofs.TallyLemmas.{pawns_counted}
 use Rattle.pg_captures.proofs.counts.pawns.Goals as goal

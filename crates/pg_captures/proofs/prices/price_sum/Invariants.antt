@@ -1,5 +1,4 @@
-use Rattle.std.proofs.Common.{◌≡◌, ◌*◌, ◌≤◌, take}
-use Rattle.std.specs.Prelude.{sum}
+use Rattle.pg_captures.proofs.Common.{◌≡◌, ◌*◌, ◌≤◌, take, sum}
 use Rattle.pg_captures.proofs.prices.price_sum.Given as goal
 
 abbrev pub invariant-loop-i : goal.invariant-loop-i

@@ -1,6 +1,4 @@
-use Rattle.std.proofs.Common.{ℕ, ◌-◌, ap, ◌∙◌}
-use Rattle.pg_captures.specs.Owed.{victims}
-use Rattle.pg_captures.specs.lemmas.TakingLemmas.{one_less, none_less}
+use Rattle.pg_captures.proofs.Common.{ℕ, ◌-◌, ap, ◌∙◌, victims, one_less, none_less}
 use Rattle.pg_captures.proofs.taking.victims_after.Goals as goal
 
 pub returns-then-takes-clause-value : goal.returns-then-takes-clause-value

@@ -1,4 +1,4 @@
-use Rattle.std.proofs.Common.{arith}
+use Rattle.pg_certificate.proofs.Common.{arith}
 use Rattle.pg_certificate.proofs.HeaderLemmas.{header_made}
 use Rattle.pg_certificate.proofs.magic.header_of.Goals as goal
 

@@ -1,6 +1,5 @@
-use Rattle.std.proofs.Common.{ap, ◌∙◌, ◌+◌, ◌-◌, arith}
+use Rattle.pg_certificate.proofs.Common.{ap, ◌∙◌, ◌+◌, ◌-◌, arith, lists_spelling}
 use Rattle.pg_certificate.proofs.PriceLoops.{first_made, next_made, all_made}
-use Rattle.pg_certificate.specs.inner.Outlines.{lists_spelling}
 use Rattle.pg_certificate.proofs.ListTexts.{spelled_lists}
 use Rattle.pg_certificate.proofs.PricedLemmas.{lists_fit}
 use Rattle.pg_certificate.proofs.outline.put_prices.Goals as goal

@@ -1,5 +1,4 @@
-use Rattle.std.proofs.Common.{◌≡◌, ◌-◌, ◌≤◌, length}
-use Rattle.pg_certificate.specs.Reading.{lists_of}
+use Rattle.pg_certificate.proofs.Common.{◌≡◌, ◌-◌, ◌≤◌, length, lists_of}
 use Rattle.pg_certificate.proofs.PriceLoops.{Made}
 use Rattle.pg_certificate.proofs.outline.put_prices.Given as goal
 

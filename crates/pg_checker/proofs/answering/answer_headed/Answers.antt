@@ -1,22 +1,9 @@
 -- What the parts answer, put together.
-use Rattle.std.proofs.Common.{ℕ, List, [], reverse, None, Ok, Err, refl, sym, ◌∙◌, ap, subst}
-use Rattle.pg_certificate.specs.Reader.{ReaderState, to_come}
-use Rattle.pg_san.specs.Games.{IsGames}
-use Rattle.pg_checker.specs.Answer.{IsExactAnswer}
-use Rattle.pg_checker.specs.Answering.{AnswerAccepts, AnswerRefuses, AnswerTells}
-use Rattle.pg_checker.specs.Chess.{any_game, chess, chess_with}
-use Rattle.pg_checker.specs.Cuts.{any_rules_by, cuts_by, rules_by}
-use Rattle.pg_checker.specs.Equality.{lists}
-use Rattle.pg_checker.specs.Terms.{terms}
+use Rattle.pg_checker.proofs.Common.{ℕ, List, [], reverse, None, Ok, Err, refl, sym, ◌∙◌, ap, subst, ReaderState, to_come, IsGames, IsExactAnswer, AnswerAccepts, AnswerRefuses, AnswerTells, any_game, chess, chess_with, any_rules_by, cuts_by, rules_by, lists, terms, Proved, Fault, Answers, Headed, HeaderFails, fault_of, IsReading, path, StopTells}
 use Rattle.pg_checker.specs.declared.certify.Answer.{Answer}
-use Rattle.pg_checker.specs.declared.certify.Proved.{Proved}
 use Rattle.pg_checker.specs.declared.fault.AnswerFault.TheVariants.{Check}
-use Rattle.pg_checker.specs.declared.fault.Fault.{Fault}
 use Rattle.pg_checker.specs.declared.machine.Frame.{Frame}
-use Rattle.pg_checker.specs.inner.Checking.{Answers, Headed, HeaderFails, fault_of}
 use Rattle.pg_checker.specs.inner.Halting.{full}
-use Rattle.pg_checker.specs.inner.Machine.{IsReading, path}
-use Rattle.pg_checker.specs.inner.Telling.{StopTells}
 use Rattle.pg_checker.proofs.Answered.{answered_accepts, answered_refuses, answered_tells, answered_with, finds_end, found_are, found_serves, stop_answer_tells, too_many}
 use Rattle.pg_checker.proofs.AnyList.{long_lists, none_accepted, none_solve}
 use Rattle.pg_checker.proofs.Certifying.{answers_by, fails_game}

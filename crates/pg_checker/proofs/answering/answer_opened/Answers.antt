@@ -1,9 +1,5 @@
 -- What stands behind the header, of the bytes that the header began.
-use Rattle.std.proofs.Common.{subst}
-use Rattle.pg_checker.specs.Answering.{AnswerAccepts, AnswerRefuses, AnswerTells}
-use Rattle.pg_checker.specs.Cuts.{any_rules_by, rules_by}
-use Rattle.pg_checker.specs.Opening.{OpenedState, bytes_of}
-use Rattle.pg_checker.specs.Terms.{terms}
+use Rattle.pg_checker.proofs.Common.{subst, AnswerAccepts, AnswerRefuses, AnswerTells, any_rules_by, rules_by, OpenedState, bytes_of, terms}
 use Rattle.pg_checker.specs.declared.opening.Opened.TheInside.{Inside}
 use Rattle.pg_checker.proofs.OpeningLemmas.{headed_by}
 use Rattle.pg_checker.proofs.answering.answer_opened.Goals as goal

@@ -1,8 +1,5 @@
 -- A header that is refused.
-use Rattle.std.proofs.Common.{ℕ, [], subst}
-use Rattle.pg_checker.specs.Chess.{any_game}
-use Rattle.pg_checker.specs.Cuts.{cuts_by}
-use Rattle.pg_checker.specs.inner.Checking.{HeaderFails}
+use Rattle.pg_checker.proofs.Common.{ℕ, [], subst, any_game, cuts_by, HeaderFails}
 use Rattle.pg_checker.proofs.AnyList.{none_accepted, none_solve}
 use Rattle.pg_checker.proofs.Verdicts.{header_accepts, header_refuses}
 use Rattle.pg_checker.proofs.answering.answer_watched.Goals as goal

@@ -1,24 +1,12 @@
 -- What the parts answer, put together.
-use Rattle.std.proofs.Common.{ℕ, List, [], reverse, Some, refl, Ok, Err, sym, ◌∙◌, ap, subst}
-use Rattle.pg_certificate.specs.Reader.{to_come}
-use Rattle.pg_checker.specs.Chess.{chess}
-use Rattle.pg_checker.specs.Check.{Accepts, Refuses}
-use Rattle.pg_checker.specs.declared.certify.Proved.{Proved}
-use Rattle.pg_checker.specs.declared.fault.Fault.{Fault}
-use Rattle.pg_checker.specs.inner.Checking.{Answers, Headed, HeaderFails, fault_of}
+use Rattle.pg_checker.proofs.Common.{ℕ, List, [], reverse, Some, refl, Ok, Err, sym, ◌∙◌, ap, subst, to_come, chess, Accepts, Refuses, Proved, Fault, Answers, Headed, HeaderFails, fault_of, path, cuts_by, rules_by, terms, Tells, StopTells, lists}
 use Rattle.pg_checker.specs.inner.Halting.{full}
-use Rattle.pg_checker.specs.inner.Machine.{path}
 use Rattle.pg_checker.specs.declared.machine.Frame.{Frame}
 use Rattle.pg_checker.proofs.Certifying.{answers_by, fails_game}
-use Rattle.pg_checker.specs.Cuts.{cuts_by, rules_by}
-use Rattle.pg_checker.specs.Terms.{terms}
 use Rattle.pg_checker.proofs.Verdicts.{sound_cuts, listed_accepts, listed_refuses, header_accepts, header_refuses, walk_headline, walk_accepts, stop_accepts, stop_refuses}
-use Rattle.pg_checker.specs.Telling.{Tells}
-use Rattle.pg_checker.specs.inner.Telling.{StopTells}
 use Rattle.pg_checker.proofs.Played.{none_played}
 use Rattle.pg_checker.proofs.Tellings.{fault_tells, header_tells}
 use Rattle.pg_checker.proofs.Planting.{kept_none}
-use Rattle.pg_checker.specs.Equality.{lists}
 use Rattle.pg_checker.proofs.certify.check_watched.Goals as goal
 
 pub walk-requires-clause-ready : goal.walk-requires-clause-ready

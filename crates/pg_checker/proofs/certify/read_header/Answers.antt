@@ -1,5 +1,4 @@
-use Rattle.pg_fen.specs.Packing.{packed_of}
-use Rattle.pg_certificate.specs.Reader.{to_come}
+use Rattle.pg_checker.proofs.Common.{packed_of, to_come}
 use Rattle.pg_checker.proofs.Certifying.{header_plies, header_diagram, unequal}
 use Rattle.pg_checker.proofs.certify.read_header.Goals as goal
 

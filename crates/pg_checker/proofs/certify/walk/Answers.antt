@@ -1,14 +1,8 @@
 -- The walk answers what the theory answers.
-use Rattle.std.proofs.Common.{[], reverse, Bool, Ok, refl, subst}
-use Rattle.pg_certificate.specs.Reader.{PullsAtMost, to_come, Reads}
-use Rattle.pg_certificate.specs.Reading.{more_at}
-use Rattle.pg_checker.specs.Cuts.{cuts_for}
+use Rattle.pg_checker.proofs.Common.{[], reverse, Bool, Ok, refl, subst, PullsAtMost, to_come, Reads, more_at, cuts_for, path, Proved, asked, own_test}
 use Rattle.pg_checker.specs.inner.Halting.{full}
-use Rattle.pg_checker.specs.inner.Machine.{path}
-use Rattle.pg_checker.specs.declared.certify.Proved.{Proved}
 use Rattle.pg_checker.proofs.Certifying.{answers_stop, fails_stop, takes_stop, answers_end, answers_more, answers_unread, end_left, pulls_end, pulls_more, pulls_unread}
 use Rattle.pg_checker.proofs.Tellings.{none_tells}
-use Rattle.pg_checker.specs.inner.Finds.{asked, own_test}
 use Rattle.pg_checker.proofs.Found.{serves_own}
 use Rattle.pg_checker.proofs.certify.walk.Goals as goal
 

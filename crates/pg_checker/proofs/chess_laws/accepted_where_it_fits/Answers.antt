@@ -1,6 +1,5 @@
 -- The lemmas of Whole, one for each direction.
-use Rattle.pg_position.specs.Array.{array_state}
-use Rattle.pg_checker.specs.Chess.{chess}
+use Rattle.pg_checker.proofs.Common.{array_state, chess}
 use Rattle.pg_checker.proofs.Chess.{chess_exact}
 use Rattle.pg_checker.proofs.Whole.{accepted, accepts}
 use Rattle.pg_checker.proofs.chess_laws.accepted_where_it_fits.Goals as goal

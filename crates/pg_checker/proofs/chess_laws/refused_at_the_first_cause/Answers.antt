@@ -1,6 +1,5 @@
 -- The lemmas of Whole and Stops: one for each direction, and one for want of memory.
-use Rattle.pg_position.specs.Array.{array_state}
-use Rattle.pg_checker.specs.Chess.{chess}
+use Rattle.pg_checker.proofs.Common.{array_state, chess}
 use Rattle.pg_checker.proofs.Chess.{chess_exact, chess_plain}
 use Rattle.pg_checker.proofs.Whole.{at_named, stopped}
 use Rattle.pg_checker.proofs.Stops.{stops}

@@ -1,4 +1,4 @@
-use Rattle.std.proofs.Common.{◌≤◌, ◌∙◌, arith}
+use Rattle.pg_checker.proofs.Common.{◌≤◌, ◌∙◌, arith}
 use Rattle.pg_checker.proofs.GameSteps.{fine_on, first_fault, all_fine}
 use Rattle.pg_checker.proofs.listed.check_listed.Goals as goal
 

@@ -1,4 +1,4 @@
-use Rattle.pg_checker.specs.Listed.{AreFine}
+use Rattle.pg_checker.proofs.Common.{AreFine}
 use Rattle.pg_checker.proofs.listed.check_listed.Given as goal
 
 abbrev pub invariant-loop-i : goal.invariant-loop-i

@@ -1,4 +1,4 @@
-use Rattle.std.proofs.Common.{sym, refl, ◌∙◌, arith}
+use Rattle.pg_checker.proofs.Common.{sym, refl, ◌∙◌, arith}
 use Rattle.pg_checker.proofs.FrameViews.{path_none, along_some, along_none}
 use Rattle.pg_checker.proofs.machine.game_along.Goals.{in-Some, in-None}
 use Rattle.pg_checker.proofs.machine.game_along.Goals as goal

@@ -1,5 +1,4 @@
-use Rattle.std.proofs.Common.{◌≡◌, ◌≤◌, length, reverse, take}
-use Rattle.pg_checker.specs.inner.Machine.{path}
+use Rattle.pg_checker.proofs.Common.{◌≡◌, ◌≤◌, length, reverse, take, path}
 use Rattle.pg_checker.proofs.machine.game_along.Given as goal
 
 -- the moves of the frames so far

@@ -1,4 +1,4 @@
-use Rattle.std.proofs.Common.{arith}
+use Rattle.pg_checker.proofs.Common.{arith}
 use Rattle.pg_checker.proofs.Leading.{none_below_more, none_below_end}
 use Rattle.pg_checker.proofs.nearness.has_leading.Goals as goal
 

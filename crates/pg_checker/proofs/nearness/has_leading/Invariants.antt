@@ -1,5 +1,5 @@
 -- No move from a square that was tried leads to the diagram.
-use Rattle.std.proofs.Common.{◌≤◌, ◌-◌}
+use Rattle.pg_checker.proofs.Common.{◌≤◌, ◌-◌}
 use Rattle.pg_checker.proofs.Leading.{NoneBelow}
 use Rattle.pg_checker.proofs.nearness.has_leading.Given as goal
 

@@ -1,4 +1,4 @@
-use Rattle.std.proofs.Common.{sym, ◌∙◌}
+use Rattle.pg_checker.proofs.Common.{sym, ◌∙◌}
 use Rattle.pg_checker.proofs.Differing.{from_elsewhere}
 use Rattle.pg_checker.proofs.Passing.{played_elsewhere}
 use Rattle.pg_checker.proofs.nearness.leads.Goals as goal

@@ -1,5 +1,4 @@
-use Rattle.std.proofs.Common.{sym, ap, ◌∙◌}
-use Rattle.pg_board.specs.Placement.{Placement, get}
+use Rattle.pg_checker.proofs.Common.{sym, ap, ◌∙◌, Placement, get}
 use Rattle.pg_checker.proofs.Leading.{between_some, between_none}
 use Rattle.pg_checker.proofs.nearness.leads_between.Goals as goal
 

@@ -1,4 +1,4 @@
-use Rattle.std.proofs.Common.{arith}
+use Rattle.pg_checker.proofs.Common.{arith}
 use Rattle.pg_checker.proofs.Leading.{none_to_more, none_to_end}
 use Rattle.pg_checker.proofs.nearness.leads_from.Goals as goal
 

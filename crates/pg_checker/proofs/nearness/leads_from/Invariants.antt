@@ -1,5 +1,5 @@
 -- No move from the square to one that was tried leads to the diagram.
-use Rattle.std.proofs.Common.{◌≤◌, ◌-◌}
+use Rattle.pg_checker.proofs.Common.{◌≤◌, ◌-◌}
 use Rattle.pg_checker.proofs.Leading.{NoneTo}
 use Rattle.pg_checker.proofs.nearness.leads_from.Given as goal
 

@@ -1,4 +1,4 @@
-use Rattle.std.proofs.Common.{refl}
+use Rattle.pg_checker.proofs.Common.{refl}
 use Rattle.pg_checker.proofs.Differing.{far_elsewhere, two_to_four}
 use Rattle.pg_checker.proofs.Leading.{told}
 use Rattle.pg_checker.proofs.nearness.leads_to.Goals as goal

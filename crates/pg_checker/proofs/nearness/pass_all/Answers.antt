@@ -1,6 +1,4 @@
-use Rattle.std.proofs.Common.{sym, subst, arith}
-use Rattle.pg_moves.specs.Left.{MovesLeft}
-use Rattle.pg_moves.specs.Moves.{IsLast}
+use Rattle.pg_checker.proofs.Common.{sym, subst, arith, MovesLeft, IsLast}
 use Rattle.pg_checker.proofs.Passing.{fewer_left, man_fewer}
 use Rattle.pg_checker.proofs.nearness.pass_all.Goals as goal
 

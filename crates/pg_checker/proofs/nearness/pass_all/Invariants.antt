@@ -1,6 +1,5 @@
 -- The position stays, and fewer moves are left at each turn.
-use Rattle.std.proofs.Common.{◌≡◌, length}
-use Rattle.pg_checker.specs.Left.{left_after}
+use Rattle.pg_checker.proofs.Common.{◌≡◌, length, left_after}
 use Rattle.pg_checker.proofs.nearness.pass_all.Given as goal
 
 abbrev pub invariant-loop-m : goal.invariant-loop-m

@@ -1,5 +1,4 @@
-use Rattle.std.proofs.Common.{refl, ap, ◌∙◌}
-use Rattle.pg_position.specs.declared.state.State.{State}
+use Rattle.pg_checker.proofs.Common.{refl, ap, ◌∙◌, State}
 use Rattle.pg_checker.proofs.Leading.{unlike_last, not_again}
 use Rattle.pg_checker.proofs.nearness.plays_to.Goals as goal
 

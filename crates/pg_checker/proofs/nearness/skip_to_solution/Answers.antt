@@ -1,8 +1,4 @@
-use Rattle.std.proofs.Common.{◌≡◌, false, sym, subst, ◌∙◌, arith}
-use Rattle.pg_board.specs.Bits.{has}
-use Rattle.pg_position.specs.declared.state.State.{State}
-use Rattle.pg_position.specs.Step.{IsLegal}
-use Rattle.pg_checker.specs.Passing.{LeadsElsewhere, LeadsTo}
+use Rattle.pg_checker.proofs.Common.{◌≡◌, false, sym, subst, ◌∙◌, arith, has, State, IsLegal, LeadsElsewhere, LeadsTo}
 use Rattle.pg_checker.proofs.Passing.{passes_none, passes_more, passes_man, passes_all, fewer_left, man_fewer, last_from, none_elsewhere}
 use Rattle.pg_checker.proofs.Differing.{far_elsewhere, from_elsewhere, two_to_four}
 use Rattle.pg_checker.proofs.Leading.{none_leads}

@@ -1,7 +1,5 @@
 -- What was passed over leads elsewhere, and fewer moves are left at each turn.
-use Rattle.std.proofs.Common.{length}
-use Rattle.pg_checker.specs.Left.{left_after}
-use Rattle.pg_checker.specs.Passing.{PassesOver}
+use Rattle.pg_checker.proofs.Common.{length, left_after, PassesOver}
 use Rattle.pg_checker.proofs.nearness.skip_to_solution.Given as goal
 
 abbrev pub invariant-loop-peeked : goal.invariant-loop-peeked

@@ -1,4 +1,4 @@
-use Rattle.std.proofs.Common.{sym, ◌∙◌}
+use Rattle.pg_checker.proofs.Common.{sym, ◌∙◌}
 use Rattle.pg_checker.proofs.Pricing.{files_said}
 use Rattle.pg_checker.proofs.node.files_exclude.Goals as goal
 

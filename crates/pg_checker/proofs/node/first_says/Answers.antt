@@ -1,4 +1,4 @@
-use Rattle.pg_checker.specs.Spots.{spot_of}
+use Rattle.pg_checker.proofs.Common.{spot_of}
 use Rattle.pg_checker.proofs.SpotLemmas.{leads_there}
 use Rattle.pg_checker.proofs.node.first_says.Goals as goal
 

@@ -1,12 +1,8 @@
-use Rattle.std.proofs.Common.{ap, true, false, Ok, Err}
+use Rattle.pg_checker.proofs.Common.{ap, true, false, Ok, Err, record_of, cuts_for, causes, stops, spot_of, any_game}
 use Rattle.pg_certificate.specs.declared.record.Record.TheVariants.{Cut, Ref, Priced}
-use Rattle.pg_certificate.specs.Spelling.{record_of}
-use Rattle.pg_checker.specs.Cuts.{cuts_for}
-use Rattle.pg_checker.specs.inner.Halting.{full, causes, stops}
+use Rattle.pg_checker.specs.inner.Halting.{full}
 use Rattle.pg_checker.specs.declared.machine.Opening.TheVariants as opening
-use Rattle.pg_checker.specs.Spots.{spot_of}
 use Rattle.pg_checker.proofs.Judgements.{cut_judged, ref_judged, priced_judged, opened_judged, named_judged, full_judged, halted, kept_none, of_record, of_named}
-use Rattle.pg_checker.specs.Chess.{any_game}
 use Rattle.pg_checker.proofs.node.judge.Goals as goal
 
 pub returns-in-Err-clause-says : goal.returns-in-Err-clause-says

@@ -1,14 +1,5 @@
-use Rattle.std.proofs.Common.{◌≡◌, ◌≢◌, ℕ, suc, ◌-◌, [], Ok, subst, arith}
-use Rattle.pg_certificate.specs.declared.record.Bare.{Bare}
-use Rattle.pg_certificate.specs.Spelling.{record_of}
-use Rattle.pg_certificate.specs.Reader.{to_come}
-use Rattle.pg_checker.specs.Chess.{any_game, read}
-use Rattle.pg_checker.specs.Cuts.{cuts_for, rules_for}
-use Rattle.pg_checker.specs.inner.Halting.{full, stops}
-use Rattle.pg_checker.specs.inner.Machine.{Point, entries_of, point_of}
-use Rattle.pg_checker.specs.inner.Steps.{Goes, Stops}
-use Rattle.pg_checker.specs.declared.machine.Opening.{Opening}
-use Rattle.pg_checker.specs.Spots.{spot_of}
+use Rattle.pg_checker.proofs.Common.{◌≡◌, ◌≢◌, ℕ, suc, ◌-◌, [], Ok, subst, arith, Bare, record_of, to_come, any_game, read, cuts_for, rules_for, stops, Point, entries_of, point_of, Goes, Stops, Opening, spot_of}
+use Rattle.pg_checker.specs.inner.Halting.{full}
 use Rattle.pg_checker.proofs.Heads.{head_budget, head_unread, head_judged, few_judged, few_unread}
 use Rattle.pg_checker.proofs.Tellings.{judge_names}
 use Rattle.pg_checker.proofs.node.judge_next.Goals as goal

@@ -1,5 +1,4 @@
-use Rattle.pg_certificate.specs.Reader.{to_come}
-use Rattle.pg_certificate.specs.Spelling.{record_of}
+use Rattle.pg_checker.proofs.Common.{to_come, record_of}
 use Rattle.pg_checker.specs.inner.Halting.{full}
 use Rattle.pg_checker.proofs.Heads.{next_ok, next_unread, as_record, few_record}
 use Rattle.pg_checker.proofs.node.next.Goals as goal

@@ -1,9 +1,4 @@
-use Rattle.std.proofs.Common.{subst}
-use Rattle.pg_position.specs.declared.state.State.{State}
-use Rattle.pg_checker.specs.Cuts.{prices_by}
-use Rattle.pg_checker.specs.Walk.{cut_answer}
-use Rattle.pg_checker.specs.inner.Halting.{causes}
-use Rattle.pg_checker.specs.inner.Judging.{Ends}
+use Rattle.pg_checker.proofs.Common.{subst, State, prices_by, cut_answer, causes, Ends}
 use Rattle.pg_checker.proofs.node.priced_there.Goals as goal
 
 pub returns : goal.returns

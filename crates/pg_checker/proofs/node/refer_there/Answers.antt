@@ -1,8 +1,4 @@
-use Rattle.std.proofs.Common.{subst, map, slice_get}
-use Rattle.pg_position.specs.declared.state.State.{State}
-use Rattle.pg_checker.specs.inner.Halting.{causes}
-use Rattle.pg_checker.specs.inner.Judging.{Ends, refer_answer}
-use Rattle.pg_checker.specs.inner.Machine.{entry_of}
+use Rattle.pg_checker.proofs.Common.{subst, map, slice_get, State, causes, Ends, refer_answer, entry_of}
 use Rattle.pg_checker.proofs.node.refer_there.Goals as goal
 
 pub returns : goal.returns

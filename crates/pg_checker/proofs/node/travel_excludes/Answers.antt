@@ -1,4 +1,4 @@
-use Rattle.pg_travel.specs.PricesDecided.{travel_prices_test_is}
+use Rattle.pg_checker.proofs.Common.{travel_prices_test_is}
 use Rattle.pg_checker.proofs.node.travel_excludes.Goals as goal
 
 pub returns-in-None : goal.returns-in-None

@@ -1,5 +1,4 @@
-use Rattle.pg_certificate.specs.Reader.{to_come}
-use Rattle.pg_checker.specs.Naming.{IsNamed, NamesNone}
+use Rattle.pg_checker.proofs.Common.{to_come, IsNamed, NamesNone}
 use Rattle.pg_checker.proofs.OpeningLemmas.{begins}
 use Rattle.pg_checker.proofs.opening.open.Goals as goal
 

@@ -1,13 +1,8 @@
 -- One tree more is read, or stops.
-use Rattle.std.proofs.Common.{◌≤◌, [], Err, reverse, arith}
-use Rattle.pg_position.specs.Array.{array_state}
-use Rattle.pg_certificate.specs.Reader.{to_come}
-use Rattle.pg_checker.specs.Cuts.{cuts_for}
+use Rattle.pg_checker.proofs.Common.{◌≤◌, [], Err, reverse, arith, array_state, to_come, cuts_for, path, asked, own_test}
 use Rattle.pg_checker.specs.inner.Halting.{full}
-use Rattle.pg_checker.specs.inner.Machine.{path}
 use Rattle.pg_checker.proofs.Running.{few_on, few_then}
 use Rattle.pg_checker.proofs.Planting.{trees_start, trees_on, trees_stop, trees_end}
-use Rattle.pg_checker.specs.inner.Finds.{asked, own_test}
 use Rattle.pg_checker.proofs.Found.{finding_none, finding_then, serves_less, serves_own}
 use Rattle.pg_checker.proofs.walk.all_trees.Goals as goal
 

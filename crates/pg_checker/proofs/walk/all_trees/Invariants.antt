@@ -1,11 +1,6 @@
 -- Nothing is open between the trees, and those that are left answer what all of them do.
-use Rattle.std.proofs.Common.{◌-◌, Bool, List}
-use Rattle.pg_position.specs.Array.{array_state}
-use Rattle.pg_certificate.specs.Reader.{to_come}
-use Rattle.pg_checker.specs.Cuts.{cuts_for}
+use Rattle.pg_checker.proofs.Common.{◌-◌, Bool, List, array_state, to_come, cuts_for, Move, Finding, Serves, asked}
 use Rattle.pg_checker.proofs.Planting.{Trees}
-use Rattle.pg_position.specs.declared.moves.Move.{Move}
-use Rattle.pg_checker.specs.inner.Finds.{Finding, Serves, asked}
 use Rattle.pg_checker.proofs.walk.all_trees.Given as goal
 
 abbrev pub invariant-loop-halt : goal.invariant-loop-halt

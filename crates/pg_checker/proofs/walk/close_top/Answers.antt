@@ -1,5 +1,4 @@
-use Rattle.std.proofs.Common.{◌≡◌, ◌+◌, ◌≤◌, ◌++◌, suc, length, arith, refl, ◌∙◌}
-use Rattle.pg_checker.specs.inner.Machine.{entered, entries_of}
+use Rattle.pg_checker.proofs.Common.{◌≡◌, ◌+◌, ◌≤◌, ◌++◌, suc, length, arith, refl, ◌∙◌, entered, entries_of}
 use Rattle.pg_checker.proofs.Running.{depth, kept_at_least}
 use Rattle.pg_checker.proofs.walk.close_top.Goals as goal
 

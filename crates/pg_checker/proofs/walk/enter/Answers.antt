@@ -1,14 +1,7 @@
-use Rattle.std.proofs.Common.{◌≡◌, ◌≢◌, ◌+◌, ◌-◌, false, Ok, Err, List, [], length, reverse, refl, sym, ◌∙◌, ap, subst, arith}
-use Rattle.pg_certificate.specs.Reader.{to_come}
-use Rattle.pg_checker.specs.Cuts.{cuts_for}
+use Rattle.pg_checker.proofs.Common.{◌≡◌, ◌≢◌, ◌+◌, ◌-◌, false, Ok, Err, List, [], length, reverse, refl, sym, ◌∙◌, ap, subst, arith, to_come, cuts_for, any_game, asked, LeadTo, fresh, path, point_of, spot_of, StopTells}
 use Rattle.pg_checker.specs.declared.halt.Halt.TheVariants.{Because}
 use Rattle.pg_checker.specs.inner.Halting.{full}
-use Rattle.pg_checker.specs.Chess.{any_game}
-use Rattle.pg_checker.specs.inner.Finds.{asked}
-use Rattle.pg_checker.specs.inner.Machine.{LeadTo, fresh, path, point_of}
-use Rattle.pg_checker.specs.Spots.{spot_of}
 use Rattle.pg_checker.specs.declared.machine.Frame.{Frame}
-use Rattle.pg_checker.specs.inner.Telling.{StopTells}
 use Rattle.pg_checker.proofs.Played.{opened_played}
 use Rattle.pg_checker.proofs.Tellings.{none_tells}
 use Rattle.pg_checker.proofs.Found.{finding_none}

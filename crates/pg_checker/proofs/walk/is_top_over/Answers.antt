@@ -1,5 +1,4 @@
-use Rattle.std.proofs.Common.{◌≡◌, ◌-◌, ◌<◌, length, arith}
-use Rattle.pg_checker.specs.inner.Machine.{Passed}
+use Rattle.pg_checker.proofs.Common.{◌≡◌, ◌-◌, ◌<◌, length, arith, Passed}
 use Rattle.pg_checker.proofs.Tops.{on_top}
 use Rattle.pg_checker.proofs.walk.is_top_over.Goals as goal
 

@@ -1,7 +1,4 @@
-use Rattle.std.proofs.Common.{true, false, reverse, ◌∙◌}
-use Rattle.pg_checker.specs.Cuts.{cuts_for}
-use Rattle.pg_checker.specs.inner.Finds.{asked}
-use Rattle.pg_checker.specs.inner.Machine.{path}
+use Rattle.pg_checker.proofs.Common.{true, false, reverse, ◌∙◌, cuts_for, asked, path}
 use Rattle.pg_checker.proofs.Leaves.{leaf_off, leaf_shorter, leaf_listed, leaf_unlisted}
 use Rattle.pg_checker.proofs.Found.{counted, finding_none}
 use Rattle.pg_checker.proofs.Tellings.{line_solves, tells_shorter, tells_unlisted}

@@ -1,6 +1,4 @@
-use Rattle.std.proofs.Common.{◌++◌, [], ◌∷◌, ap, ◌∙◌}
-use Rattle.pg_position.specs.declared.state.State.{State}
-use Rattle.pg_checker.specs.inner.Machine.{fresh}
+use Rattle.pg_checker.proofs.Common.{◌++◌, [], ◌∷◌, ap, ◌∙◌, State, fresh}
 use Rattle.pg_checker.proofs.walk.open_node.Goals as goal
 
 pub returns : goal.returns

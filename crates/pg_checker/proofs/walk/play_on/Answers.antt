@@ -1,7 +1,4 @@
-use Rattle.std.proofs.Common.{subst, sym, ap, ◌∙◌}
-use Rattle.pg_position.specs.declared.state.State.{State}
-use Rattle.pg_position.specs.Step.{IsLegal}
-use Rattle.pg_moves.specs.Left.{MovesLeft}
+use Rattle.pg_checker.proofs.Common.{subst, sym, ap, ◌∙◌, State, IsLegal, MovesLeft}
 use Rattle.pg_checker.proofs.SpotLemmas.{plays_on}
 use Rattle.pg_checker.proofs.walk.play_on.Goals as goal
 

@@ -1,7 +1,5 @@
-use Rattle.std.proofs.Common.{◌≡◌, ◌-◌, ◌<◌, length, arith}
-use Rattle.pg_checker.specs.inner.Machine.{HasNone, Plays}
+use Rattle.pg_checker.proofs.Common.{◌≡◌, ◌-◌, ◌<◌, length, arith, HasNone, Plays, spot_of}
 use Rattle.pg_checker.specs.declared.spot.Child.{Child}
-use Rattle.pg_checker.specs.Spots.{spot_of}
 use Rattle.pg_checker.proofs.Tops.{each_on_top}
 use Rattle.pg_checker.proofs.walk.play_top.Goals as goal
 

@@ -1,13 +1,8 @@
 -- Each turn keeps what holds, and leaves less to do.
-use Rattle.std.proofs.Common.{[], Err, reverse}
-use Rattle.pg_certificate.specs.Reader.{to_come}
-use Rattle.pg_checker.specs.Cuts.{cuts_for}
+use Rattle.pg_checker.proofs.Common.{[], Err, reverse, to_come, cuts_for, path, any_game, asked, own_test}
 use Rattle.pg_checker.specs.inner.Halting.{full}
-use Rattle.pg_checker.specs.inner.Machine.{path}
 use Rattle.pg_checker.proofs.Running.{runs_start, runs_end, few_then}
 use Rattle.pg_checker.proofs.Tops.{passed_on, turn_runs, turn_less, turn_stops, close_runs, close_less, no_items}
-use Rattle.pg_checker.specs.Chess.{any_game}
-use Rattle.pg_checker.specs.inner.Finds.{asked, own_test}
 use Rattle.pg_checker.proofs.Found.{finding_none, finding_then, serves_less, serves_own}
 use Rattle.pg_checker.proofs.walk.run.Goals as goal
 

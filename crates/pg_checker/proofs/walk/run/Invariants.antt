@@ -1,14 +1,6 @@
 -- What is left to do answers what the whole answers, and there is less of it at each turn.
-use Rattle.std.proofs.Common.{Bool, List, []}
-use Rattle.pg_certificate.specs.Reader.{to_come}
-use Rattle.pg_moves.specs.inner.Places.{most_moves}
-use Rattle.pg_checker.specs.Chess.{any_game, chess_with}
-use Rattle.pg_checker.specs.Cuts.{cuts_for}
-use Rattle.pg_checker.specs.inner.Frames.{effort}
-use Rattle.pg_checker.specs.inner.Machine.{work_at}
+use Rattle.pg_checker.proofs.Common.{Bool, List, [], to_come, most_moves, any_game, chess_with, cuts_for, effort, work_at, Move, Finding, Serves, asked}
 use Rattle.pg_checker.proofs.Running.{Runs}
-use Rattle.pg_position.specs.declared.moves.Move.{Move}
-use Rattle.pg_checker.specs.inner.Finds.{Finding, Serves, asked}
 use Rattle.pg_checker.proofs.walk.run.Given as goal
 
 abbrev pub invariant-loop-machine : goal.invariant-loop-machine

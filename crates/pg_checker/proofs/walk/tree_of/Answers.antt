@@ -1,14 +1,9 @@
 -- Entering the root, and then all turns, is visiting it.
-use Rattle.std.proofs.Common.{[], reverse}
-use Rattle.pg_position.specs.Array.{array_state}
-use Rattle.pg_certificate.specs.Reader.{to_come}
-use Rattle.pg_checker.specs.Cuts.{cuts_for}
-use Rattle.pg_checker.specs.inner.Halting.{full, stops}
-use Rattle.pg_checker.specs.inner.Machine.{path}
+use Rattle.pg_checker.proofs.Common.{[], reverse, array_state, to_come, cuts_for, stops, path, asked, own_test}
+use Rattle.pg_checker.specs.inner.Halting.{full}
 use Rattle.pg_checker.proofs.Running.{few_then}
 use Rattle.pg_checker.proofs.Played.{none_leads}
 use Rattle.pg_checker.proofs.Planting.{tree_says, tree_stops, root_stacked, entered_at, stops_at}
-use Rattle.pg_checker.specs.inner.Finds.{asked, own_test}
 use Rattle.pg_checker.proofs.Found.{finding_then, serves_less, serves_own}
 use Rattle.pg_checker.proofs.walk.tree_of.Goals as goal
 

@@ -1,10 +1,5 @@
 -- The topmost frame is played on where it stands, and a child is entered; or it closes.
-use Rattle.std.proofs.Common.{reverse, refl}
-use Rattle.pg_certificate.specs.Reader.{to_come}
-use Rattle.pg_checker.specs.Cuts.{cuts_for}
-use Rattle.pg_checker.specs.inner.Halting.{stops}
-use Rattle.pg_checker.specs.inner.Machine.{path}
-use Rattle.pg_checker.specs.Spots.{spot_of}
+use Rattle.pg_checker.proofs.Common.{reverse, refl, to_come, cuts_for, stops, path, spot_of}
 use Rattle.pg_checker.proofs.Running.{few_none}
 use Rattle.pg_checker.proofs.Played.{closes_played, play_leads, play_played}
 use Rattle.pg_checker.proofs.Found.{finding_none}

@@ -1,4 +1,4 @@
-use Rattle.pg_checker.specs.Answer.{AreSolutions}
+use Rattle.pg_cooks.proofs.Common.{AreSolutions}
 use Rattle.pg_cooks.proofs.FoundLemmas.{added_is, when_ok}
 use Rattle.pg_cooks.proofs.finding.is_solution.Goals as goal
 

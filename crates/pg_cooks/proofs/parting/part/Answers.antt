@@ -1,5 +1,4 @@
-use Rattle.std.proofs.Common.{◌≡◌, false, true, arith, rules}
-use Rattle.pg_cooks.specs.Parting.{is_same}
+use Rattle.pg_cooks.proofs.Common.{◌≡◌, false, true, arith, rules, is_same}
 use Rattle.pg_cooks.proofs.PartingLemmas.{ends_first, ends_second, goes_on, parts_here}
 use Rattle.pg_cooks.proofs.parting.part.Goals as goal
 

@@ -1,4 +1,4 @@
-use Rattle.std.proofs.Common.{◌≤◌}
+use Rattle.pg_cooks.proofs.Common.{◌≤◌}
 use Rattle.pg_cooks.proofs.PartingLemmas.{IsCounted}
 use Rattle.pg_cooks.proofs.parting.plays.Given as goal
 

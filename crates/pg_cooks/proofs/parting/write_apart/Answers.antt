@@ -1,7 +1,4 @@
-use Rattle.std.proofs.Common.{refl, rules}
-use Rattle.std.specs.Io.KnownBytes.{Appends}
-use Rattle.pg_texts.proofs.OutcomeLemmas.{on_ok}
-use Rattle.pg_cooks.specs.Parting.{apart_text, between_text}
+use Rattle.pg_cooks.proofs.Common.{refl, rules, Appends, on_ok, apart_text, between_text}
 use Rattle.pg_cooks.proofs.PartingLemmas.{apart_grows, apart_none}
 use Rattle.pg_cooks.proofs.parting.write_apart.Goals as goal
 

@@ -1,7 +1,4 @@
-use Rattle.std.proofs.Common.{refl}
-use Rattle.std.specs.Io.KnownBytes.{Appends}
-use Rattle.pg_texts.proofs.OutcomeLemmas.{on_ok}
-use Rattle.pg_cooks.specs.Parting.{apart_text, pair_text}
+use Rattle.pg_cooks.proofs.Common.{refl, Appends, on_ok, apart_text, pair_text}
 use Rattle.pg_cooks.proofs.PartingLemmas.{pair_grows, pair_none}
 use Rattle.pg_cooks.proofs.parting.write_pair_apart.Goals as goal
 

@@ -1,9 +1,4 @@
-use Rattle.std.proofs.Common.{rules}
-use Rattle.std.specs.Prelude.{codes}
-use Rattle.pg_certificate.specs.Pushing.{AddsSome}
-use Rattle.pg_texts.specs.Report.{line_text}
-use Rattle.pg_texts.proofs.OutcomeLemmas.{on_ok}
-use Rattle.pg_cooks.specs.Cooks.{IsCookText, IsEndText, cook_text}
+use Rattle.pg_cooks.proofs.Common.{rules, codes, AddsSome, line_text, on_ok, IsCookText, IsEndText, cook_text}
 use Rattle.pg_cooks.proofs.TextLemmas.{found_grows}
 use Rattle.pg_cooks.proofs.writing.write_cook.Goals as goal
 

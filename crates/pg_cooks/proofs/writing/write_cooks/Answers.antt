@@ -1,7 +1,4 @@
-use Rattle.std.proofs.Common.{rules}
-use Rattle.pg_certificate.specs.Pushing.{AddsSome}
-use Rattle.pg_texts.proofs.OutcomeLemmas.{on_ok}
-use Rattle.pg_cooks.specs.Cooks.{IsAnswerText, IsCooksReport}
+use Rattle.pg_cooks.proofs.Common.{rules, AddsSome, on_ok, IsAnswerText, IsCooksReport}
 use Rattle.pg_cooks.proofs.TextLemmas.{cooks_grow}
 use Rattle.pg_cooks.proofs.writing.write_cooks.Goals as goal
 

@@ -1,8 +1,4 @@
-use Rattle.std.proofs.Common.{rules}
-use Rattle.pg_texts.proofs.OutcomeLemmas.{on_ok}
-use Rattle.pg_certificate.specs.Pushing.{AddsSome}
-use Rattle.pg_texts.specs.Report.{AreGameLines}
-use Rattle.pg_cooks.specs.Standing.{IsKnownText}
+use Rattle.pg_cooks.proofs.Common.{rules, on_ok, AddsSome, AreGameLines, IsKnownText}
 use Rattle.pg_cooks.proofs.TextLemmas.{known_grows}
 use Rattle.pg_cooks.proofs.writing.write_known.Goals as goal
 

@@ -1,8 +1,4 @@
-use Rattle.std.proofs.Common.{rules}
-use Rattle.std.specs.Io.KnownBytes.{Appends}
-use Rattle.pg_certificate.specs.Pushing.{AddsSome}
-use Rattle.pg_texts.proofs.OutcomeLemmas.{on_ok}
-use Rattle.pg_cooks.specs.Cooks.{IsEndText, cook_text}
+use Rattle.pg_cooks.proofs.Common.{rules, Appends, AddsSome, on_ok, IsEndText, cook_text}
 use Rattle.pg_cooks.proofs.TextLemmas.{end_grows}
 use Rattle.pg_cooks.proofs.writing.write_other.Goals as goal
 

@@ -1,8 +1,4 @@
-use Rattle.std.proofs.Common.{◌++◌, length, codes, decimal, rules}
-use Rattle.pg_certificate.specs.Pushing.{AddsSome}
-use Rattle.pg_texts.specs.Report.{line_text}
-use Rattle.pg_texts.proofs.OutcomeLemmas.{on_ok}
-use Rattle.pg_cooks.specs.Cooks.{IsEndText, IsShorterText, unsound_text}
+use Rattle.pg_cooks.proofs.Common.{◌++◌, length, codes, decimal, rules, AddsSome, line_text, on_ok, IsEndText, IsShorterText, unsound_text}
 use Rattle.pg_cooks.proofs.TextLemmas.{found_grows}
 use Rattle.pg_cooks.proofs.writing.write_shorter.Goals as goal
 

@@ -1,4 +1,4 @@
-use Rattle.std.proofs.Common.{rules}
+use Rattle.pg_cooks.proofs.Common.{rules}
 use Rattle.pg_cooks.proofs.TextLemmas.{standing_grows}
 use Rattle.pg_cooks.proofs.writing.write_standing.Goals as goal
 

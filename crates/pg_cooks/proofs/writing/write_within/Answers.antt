@@ -1,8 +1,4 @@
-use Rattle.std.proofs.Common.{◌∙◌, ap, rules}
-use Rattle.std.specs.Prelude.{decimal}
-use Rattle.std.specs.Io.KnownBytes.{Appends}
-use Rattle.pg_texts.proofs.OutcomeLemmas.{on_ok}
-use Rattle.pg_cooks.specs.Cooks.{within_text}
+use Rattle.pg_cooks.proofs.Common.{◌∙◌, ap, rules, decimal, Appends, on_ok, within_text}
 use Rattle.pg_cooks.proofs.TextLemmas.{within_grows}
 use Rattle.pg_cooks.proofs.writing.write_within.Goals as goal
 

@@ -1,5 +1,4 @@
-use Rattle.std.proofs.Common.{◌<◌, length, ℕ, take, drop, ap, ◌∙◌, arith}
-use Rattle.pg_fen.specs.Fields.{is_field_gap}
+use Rattle.pg_fen.proofs.Common.{◌<◌, length, ℕ, take, drop, ap, ◌∙◌, arith, is_field_gap}
 use Rattle.pg_fen.proofs.Cutting.{no_part, first_part}
 use Rattle.pg_fen.proofs.fields.next_field.Goals as goal
 

@@ -1,6 +1,4 @@
-use Rattle.std.proofs.Common.{refl, ◌∙◌, subst}
-use Rattle.pg_fen.specs.PositionWriting.{position_text}
-use Rattle.pg_fen.specs.PositionText.{IsGameRead}
+use Rattle.pg_fen.proofs.Common.{refl, ◌∙◌, subst, position_text, IsGameRead}
 use Rattle.pg_fen.proofs.GameLemmas.{game_again, game_alone, game_back}
 use Rattle.pg_fen.proofs.games.write_position.Goals as goal
 

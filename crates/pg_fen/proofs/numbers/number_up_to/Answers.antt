@@ -1,6 +1,4 @@
-use Rattle.std.proofs.Common.{arith}
-use Rattle.std.specs.Prelude.{min}
-use Rattle.std.specs.Str.Parse.{digits_value}
+use Rattle.pg_fen.proofs.Common.{arith, min, digits_value}
 use Rattle.pg_fen.proofs.Decimals.{digit_at, capped_step}
 use Rattle.pg_fen.proofs.numbers.number_up_to.Goals as goal
 

@@ -1,7 +1,4 @@
-use Rattle.std.proofs.Common.{◌≡◌, ◌≤◌, drop}
-use Rattle.std.specs.Prelude.{min, IsTrue}
-use Rattle.std.specs.Str.{all_ascii_digits}
-use Rattle.std.specs.Str.Parse.{digits_value, digits_value_after}
+use Rattle.pg_fen.proofs.Common.{◌≡◌, ◌≤◌, drop, min, IsTrue, all_ascii_digits, digits_value, digits_value_after}
 use Rattle.pg_fen.proofs.numbers.number_up_to.Given as goal
 
 abbrev pub invariant-loop-d : goal.invariant-loop-d

@@ -1,4 +1,4 @@
-use Rattle.std.proofs.Common.{arith}
+use Rattle.pg_fen.proofs.Common.{arith}
 use Rattle.pg_fen.proofs.PackingLemmas.{packed_all}
 use Rattle.pg_fen.proofs.packing.packed_of.Goals as goal
 

@@ -1,5 +1,4 @@
-use Rattle.std.proofs.Common.{◌≡◌, ◌<◌, ℕ, length, get_or}
-use Rattle.pg_fen.specs.Packing.{packed_byte}
+use Rattle.pg_fen.proofs.Common.{◌≡◌, ◌<◌, ℕ, length, get_or, packed_byte}
 use Rattle.pg_fen.proofs.packing.packed_of.Given as goal
 
 abbrev pub invariant-loop-j : goal.invariant-loop-j

@@ -1,6 +1,4 @@
-use Rattle.std.proofs.Common.{◌∙◌, ℕ, Some, refl, ap, sym, arith, subst}
-use Rattle.pg_board.specs.Placement.{write}
-use Rattle.pg_fen.specs.inner.Cells.{cell_from}
+use Rattle.pg_fen.proofs.Common.{◌∙◌, ℕ, Some, refl, ap, sym, arith, subst, write, cell_from}
 use Rattle.pg_fen.proofs.PackingLemmas.{IsPut, put_none, put_more, put_nothing, same_bytes, is_unpacked, has_no_board}
 use Rattle.pg_fen.proofs.packing.unpacked.Goals as goal
 use Rattle.pg_fen.proofs.packing.unpacked.Goals.{in-Some, in_default}

@@ -1,6 +1,4 @@
-use Rattle.std.proofs.Common.{◌≡◌}
-use Rattle.pg_board.specs.Tally.{tally_below}
-use Rattle.pg_fen.specs.PlacementText.{is_edge_pawn}
+use Rattle.pg_fen.proofs.Common.{◌≡◌, tally_below, is_edge_pawn}
 use Rattle.pg_fen.proofs.placement.edge_pawns.Given as goal
 
 abbrev pub invariant-loop-i : goal.invariant-loop-i

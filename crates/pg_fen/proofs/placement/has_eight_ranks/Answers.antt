@@ -1,7 +1,4 @@
-use Rattle.std.proofs.Common.{◌≡◌, ◌+◌, nat_eq, arith, length}
-use Rattle.std.specs.List.{slice_split, count_by}
-use Rattle.std.proofs.lemmas.List.Splits.{length-slice_split}
-use Rattle.pg_fen.specs.PlacementText.{is_slash}
+use Rattle.pg_fen.proofs.Common.{◌≡◌, ◌+◌, nat_eq, arith, length, slice_split, count_by, length-slice_split, is_slash}
 use Rattle.pg_fen.proofs.placement.has_eight_ranks.Goals as goal
 
 pub returns : goal.returns

@@ -1,4 +1,4 @@
-use Rattle.std.proofs.Common.{◌≡◌, ◌∙◌, ℕ, true, false, ap, sym, nat_eq}
+use Rattle.pg_fen.proofs.Common.{◌≡◌, ◌∙◌, ℕ, true, false, ap, sym, nat_eq}
 use Rattle.pg_fen.proofs.DiagramLemmas.{diagram_from_tests, tests_of_diagram}
 use Rattle.pg_fen.proofs.placement.is_diagram.Goals as goal
 

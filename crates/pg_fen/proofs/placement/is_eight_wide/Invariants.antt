@@ -1,6 +1,4 @@
-use Rattle.std.proofs.Common.{◌≡◌, ◌+◌, drop}
-use Rattle.std.specs.List.{sum_by}
-use Rattle.pg_fen.specs.PlacementText.{width_of}
+use Rattle.pg_fen.proofs.Common.{◌≡◌, ◌+◌, drop, sum_by, width_of}
 use Rattle.pg_fen.proofs.placement.is_eight_wide.Given as goal
 
 abbrev pub invariant-loop-byte : goal.invariant-loop-byte

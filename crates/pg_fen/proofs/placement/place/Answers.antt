@@ -1,4 +1,4 @@
-use Rattle.std.proofs.Common.{arith, sym, ◌∙◌}
+use Rattle.pg_fen.proofs.Common.{arith, sym, ◌∙◌}
 use Rattle.pg_fen.proofs.SquareLemmas.{UpTo-start, UpTo-run, UpTo-man, UpTo-none, UpTo-all}
 use Rattle.pg_fen.proofs.placement.place.Goals as goal
 use Rattle.pg_fen.proofs.placement.place.Goals.{then-is_run, else-is_run+in-Some, else-is_run+in_default}

@@ -1,7 +1,6 @@
-use Rattle.std.proofs.Common.{rules}
+use Rattle.pg_fen.proofs.Common.{rules, is_slash, is_eight_wide}
 use Rattle.std.proofs.lemmas.Iterator.Search.{all_from_yields_List}
 use Rattle.std.proofs.lemmas.Iterator.Splits.{YieldsList-from_slice_split}
-use Rattle.pg_fen.specs.PlacementText.{is_slash, is_eight_wide}
 use Rattle.pg_fen.proofs.placement.ranks_are_wide.Goals as goal
 
 pub returns : goal.returns

@@ -1,7 +1,4 @@
-use Rattle.std.proofs.Common.{◌≡◌, ◌-◌, ◌++◌, ◌∷◌, [], List, Option, refl, arith, sym, ap, ◌∙◌}
-use Rattle.pg_board.specs.declared.man.Man.{Man}
-use Rattle.pg_fen.specs.PlacementText.{cells_text, row_text}
-use Rattle.std.proofs.lemmas.List.{append-nil}
+use Rattle.pg_fen.proofs.Common.{◌≡◌, ◌-◌, ◌++◌, ◌∷◌, [], List, Option, refl, arith, sym, ap, ◌∙◌, Man, cells_text, row_text, append-nil}
 use Rattle.pg_fen.proofs.WritingLemmas.{Written-none, Written-more, Written-all}
 use Rattle.pg_fen.proofs.writing.put_placement.Goals as goal
 use Rattle.pg_fen.proofs.writing.put_placement.Goals.{then-i-gt0, else-i-gt0}

@@ -1,5 +1,4 @@
-use Rattle.std.proofs.Common.{◌≡◌, ◌≤◌, ◌+◌, ◌++◌, drop, length}
-use Rattle.pg_fen.specs.PlacementText.{cells_text}
+use Rattle.pg_fen.proofs.Common.{◌≡◌, ◌≤◌, ◌+◌, ◌++◌, drop, length, cells_text}
 use Rattle.pg_fen.proofs.writing.put_rank.Given as goal
 
 abbrev pub invariant-loop-cell : goal.invariant-loop-cell

@@ -1,7 +1,5 @@
-use Rattle.std.proofs.Common.{◌+◌, ◌*◌, None, ◌∙◌, arith}
-use Rattle.std.proofs.lemmas.List.{length-set}
+use Rattle.pg_fen.proofs.Common.{◌+◌, ◌*◌, None, ◌∙◌, arith, length-set, get}
 use Rattle.std.proofs.lemmas.List.Edits.{fill_by_more}
-use Rattle.pg_board.specs.Placement.{get}
 use Rattle.pg_fen.proofs.WritingLemmas.{row_all}
 use Rattle.pg_fen.proofs.writing.row.Goals as goal
 

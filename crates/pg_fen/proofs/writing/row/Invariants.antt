@@ -1,5 +1,4 @@
-use Rattle.std.proofs.Common.{◌≡◌, ◌<◌, ◌+◌, ◌*◌, ℕ, None, length, get_or}
-use Rattle.pg_board.specs.Placement.{get}
+use Rattle.pg_fen.proofs.Common.{◌≡◌, ◌<◌, ◌+◌, ◌*◌, ℕ, None, length, get_or, get}
 use Rattle.pg_fen.proofs.writing.row.Given as goal
 
 abbrev pub invariant-loop-file : goal.invariant-loop-file

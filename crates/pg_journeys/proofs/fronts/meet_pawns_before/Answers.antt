@@ -1,4 +1,4 @@
-use Rattle.pg_journeys.specs.Known.{known}
+use Rattle.pg_journeys.proofs.Common.{known}
 use Rattle.pg_journeys.proofs.BackLemmas.{pawns_back, no_pawns_back}
 use Rattle.pg_journeys.proofs.fronts.meet_pawns_before.Goals as goal
 

@@ -1,6 +1,4 @@
-use Rattle.std.proofs.Common.{ap, sym, ℕ}
-use Rattle.pg_board.specs.Bits.{has}
-use Rattle.pg_journeys.specs.Known.{known}
+use Rattle.pg_journeys.proofs.Common.{ap, sym, ℕ, has, known}
 use Rattle.pg_journeys.proofs.BackLemmas.{pieces_back, no_pieces_back}
 use Rattle.pg_journeys.proofs.fronts.meet_pieces_before.Goals as goal
 

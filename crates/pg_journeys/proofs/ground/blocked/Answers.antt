@@ -1,4 +1,4 @@
-use Rattle.pg_travel.proofs.TakenSets.{fewer}
+use Rattle.pg_journeys.proofs.Common.{fewer}
 use Rattle.pg_journeys.proofs.TableLemmas.{blocking_first, blocking_next}
 use Rattle.pg_journeys.proofs.ground.blocked.Goals as goal
 

@@ -1,6 +1,4 @@
-use Rattle.std.proofs.Common.{◌≡◌, ℕ, ◌+◌, ◌*◌, length, arith, ap₂, ◌∙◌}
-use Rattle.pg_board.specs.Men.{number_of_kind}
-use Rattle.pg_travel.proofs.TakenSets.{fewer}
+use Rattle.pg_journeys.proofs.Common.{◌≡◌, ℕ, ◌+◌, ◌*◌, length, arith, ap₂, ◌∙◌, number_of_kind, fewer}
 use Rattle.pg_journeys.proofs.TableLemmas.{filling_next, steps_from}
 use Rattle.pg_journeys.proofs.ground.fill_kind.Goals as goal
 

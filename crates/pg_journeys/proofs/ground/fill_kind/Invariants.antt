@@ -1,5 +1,4 @@
-use Rattle.pg_board.specs.Bits.{has}
-use Rattle.pg_board.specs.Tally.{count_below}
+use Rattle.pg_journeys.proofs.Common.{has, count_below}
 use Rattle.pg_journeys.proofs.TableLemmas.{IsFilling}
 use Rattle.pg_journeys.proofs.ground.fill_kind.Given as goal
 

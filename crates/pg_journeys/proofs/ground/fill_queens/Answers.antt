@@ -1,5 +1,4 @@
-use Rattle.std.proofs.Common.{◌≡◌, ◌+◌, length, refl, arith}
-use Rattle.std.proofs.lemmas.List.{get_or_default}
+use Rattle.pg_journeys.proofs.Common.{◌≡◌, ◌+◌, length, refl, arith, get_or_default}
 use Rattle.pg_journeys.proofs.TableLemmas.{queens_next, queens_all}
 use Rattle.pg_journeys.proofs.ground.fill_queens.Goals as goal
 

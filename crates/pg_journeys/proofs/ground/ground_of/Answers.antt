@@ -1,5 +1,4 @@
-use Rattle.std.proofs.Common.{refl}
-use Rattle.pg_journeys.specs.Known.{known}
+use Rattle.pg_journeys.proofs.Common.{refl, known}
 use Rattle.pg_journeys.proofs.TableLemmas.{free_is}
 use Rattle.pg_journeys.proofs.ground.ground_of.Goals as goal
 

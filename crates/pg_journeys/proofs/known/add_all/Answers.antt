@@ -1,5 +1,4 @@
-use Rattle.std.proofs.Common.{sym, subst, ℕ}
-use Rattle.pg_journeys.specs.inner.Grounds.{HasSteps}
+use Rattle.pg_journeys.proofs.Common.{sym, subst, ℕ, HasSteps}
 use Rattle.pg_journeys.proofs.known.add_all.Goals as goal
 
 pub add_both-requires-clause-steps : goal.add_both-requires-clause-steps

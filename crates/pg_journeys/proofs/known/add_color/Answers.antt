@@ -1,7 +1,5 @@
-use Rattle.std.proofs.Common.{refl, sym, subst, ℕ, List}
-use Rattle.std.proofs.lemmas.Grind.{merely}
+use Rattle.pg_journeys.proofs.Common.{refl, sym, subst, ℕ, List, merely, HasSteps}
 use Rattle.pg_journeys.specs.declared.facts.Facts.{Facts as FactSets}
-use Rattle.pg_journeys.specs.inner.Grounds.{HasSteps}
 use Rattle.pg_journeys.proofs.RestingLemmas.{lifted_few}
 use Rattle.pg_journeys.proofs.known.add_color.Goals as goal
 

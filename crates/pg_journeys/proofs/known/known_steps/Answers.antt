@@ -1,5 +1,4 @@
-use Rattle.std.proofs.Common.{sym, ◌∙◌}
-use Rattle.std.proofs.lemmas.Bool.{eqb-true}
+use Rattle.pg_journeys.proofs.Common.{sym, ◌∙◌, eqb-true}
 use Rattle.pg_journeys.proofs.KnownLemmas.{known_table}
 use Rattle.pg_journeys.proofs.known.known_steps.Goals as goal
 

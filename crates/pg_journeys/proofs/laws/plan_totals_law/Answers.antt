@@ -1,4 +1,4 @@
-use Rattle.pg_journeys.specs.lemmas.PlanTotals.{plan_to_total, total_to_plan, plans_are_totals}
+use Rattle.pg_journeys.proofs.Common.{plan_to_total, total_to_plan, plans_are_totals}
 use Rattle.pg_journeys.proofs.laws.plan_totals_law.Goals as goal
 
 pub returns-clause-same : goal.returns-clause-same

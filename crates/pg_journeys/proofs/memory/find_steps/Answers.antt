@@ -1,6 +1,4 @@
-use Rattle.std.proofs.Common.{◌<◌, length, get_or, arith, sym, ◌∙◌}
-use Rattle.std.proofs.lemmas.Bool.{eqb-true}
-use Rattle.std.proofs.lemmas.Bool.Decides.{nat_tests}
+use Rattle.pg_journeys.proofs.Common.{◌<◌, length, get_or, arith, sym, ◌∙◌, eqb-true, nat_tests}
 use Rattle.pg_journeys.proofs.MemoryLemmas.{steps_kept}
 use Rattle.pg_journeys.proofs.memory.find_steps.Goals as goal
 

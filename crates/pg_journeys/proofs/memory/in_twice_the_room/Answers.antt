@@ -1,4 +1,4 @@
-use Rattle.std.proofs.Common.{refl, arith}
+use Rattle.pg_journeys.proofs.Common.{refl, arith}
 use Rattle.pg_journeys.proofs.MemoryLemmas.{lent_cases, kept_cases}
 use Rattle.pg_journeys.proofs.memory.in_twice_the_room.Goals as goal
 

@@ -1,4 +1,4 @@
-use Rattle.std.proofs.Common.{refl}
+use Rattle.pg_journeys.proofs.Common.{refl}
 use Rattle.pg_journeys.proofs.MemoryLemmas.{lent_cases}
 use Rattle.pg_journeys.proofs.memory.make_room.Goals as goal
 

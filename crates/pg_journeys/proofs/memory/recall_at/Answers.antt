@@ -1,5 +1,4 @@
-use Rattle.std.proofs.Common.{◌<◌, length, arith}
-use Rattle.std.proofs.lemmas.Bool.Decides.{nat_tests}
+use Rattle.pg_journeys.proofs.Common.{◌<◌, length, arith, nat_tests}
 use Rattle.pg_journeys.proofs.MemoryLemmas.{recalled}
 use Rattle.pg_journeys.proofs.memory.recall_at.Goals as goal
 

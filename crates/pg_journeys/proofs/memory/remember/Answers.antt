@@ -1,7 +1,4 @@
-use Rattle.std.proofs.Common.{true}
-use Rattle.std.proofs.lemmas.List.Elements.{All-set}
-use Rattle.pg_journeys.specs.inner.Remembering.{IsRemembered}
-use Rattle.pg_journeys.specs.declared.memory.Remembered.{Remembered}
+use Rattle.pg_journeys.proofs.Common.{true, All-set, IsRemembered, Remembered}
 use Rattle.pg_journeys.proofs.memory.remember.Goals as goal
 
 pub returns-then-place-shown : goal.returns-then-place-shown

@@ -1,5 +1,4 @@
-use Rattle.std.proofs.Common.{◌<◌, length, arith}
-use Rattle.std.proofs.lemmas.Bool.Decides.{nat_tests}
+use Rattle.pg_journeys.proofs.Common.{◌<◌, length, arith, nat_tests}
 use Rattle.pg_journeys.proofs.MemoryLemmas.{told_there}
 use Rattle.pg_journeys.proofs.memory.remember_all.Goals.{then-other, else-other}
 use Rattle.pg_journeys.proofs.memory.remember_all.Goals as goal

@@ -1,6 +1,4 @@
-use Rattle.std.specs.Prelude.{All}
-use Rattle.pg_board.specs.Placement.{Placement}
-use Rattle.pg_journeys.specs.inner.Remembering.{IsRemembered}
+use Rattle.pg_journeys.proofs.Common.{All, Placement, IsRemembered}
 use Rattle.pg_journeys.proofs.memory.remember_all.Given as goal
 
 abbrev pub invariant-loop-other : goal.invariant-loop-other

@@ -1,9 +1,7 @@
-use Rattle.std.proofs.Common.{refl, sym, ◌∙◌}
+use Rattle.pg_journeys.proofs.Common.{refl, sym, ◌∙◌, lifted, fewer}
 use Rattle.pg_journeys.proofs.Lifting.{found_there, found_none}
 use Rattle.pg_journeys.proofs.RestingLemmas.{own_lifted}
 use Rattle.pg_journeys.proofs.MenLemmas.{found_first, found_next, found_count, found_all, room_left}
-use Rattle.pg_journeys.specs.inner.Resting.{lifted}
-use Rattle.pg_travel.proofs.TakenSets.{fewer}
 use Rattle.pg_journeys.proofs.men.men_without.Goals as goal
 
 pub loop-square-init : goal.loop-square-init

@@ -1,7 +1,5 @@
-use Rattle.pg_board.specs.Bits.{has}
-use Rattle.pg_board.specs.Tally.{count_below}
+use Rattle.pg_journeys.proofs.Common.{has, count_below, lifted}
 use Rattle.pg_journeys.proofs.MenLemmas.{AreFound}
-use Rattle.pg_journeys.specs.inner.Resting.{lifted}
 use Rattle.pg_journeys.proofs.men.men_without.Given as goal
 
 abbrev pub invariant-loop-square : goal.invariant-loop-square

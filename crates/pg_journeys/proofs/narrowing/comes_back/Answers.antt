@@ -1,4 +1,4 @@
-use Rattle.std.proofs.Common.{arith}
+use Rattle.pg_journeys.proofs.Common.{arith}
 use Rattle.pg_journeys.proofs.NarrowedSteps.{back_first, back_none, back_last}
 use Rattle.pg_journeys.proofs.SideLemmas.{side_ground}
 use Rattle.pg_journeys.proofs.narrowing.comes_back.Goals as goal

@@ -1,5 +1,4 @@
-use Rattle.std.proofs.Common.{◌∙◌, ap, ℕ, get_or, rules}
-use Rattle.std.proofs.lemmas.Grind.{get_or_default_zero}
+use Rattle.pg_journeys.proofs.Common.{◌∙◌, ap, ℕ, get_or, rules, get_or_default_zero}
 use Rattle.pg_journeys.proofs.NarrowedSteps.{comes_on}
 use Rattle.pg_journeys.proofs.narrowing.comes_by.Goals as goal
 

@@ -1,8 +1,5 @@
-use Rattle.std.proofs.Common.{inl, refl, ◌≡◌, ◌+◌, ◌≤◌, ◌∙◌, length, sym, subst, arith}
-use Rattle.std.proofs.Math.ListN.{length-set}
+use Rattle.pg_journeys.proofs.Common.{inl, refl, ◌≡◌, ◌+◌, ◌≤◌, ◌∙◌, length, sym, subst, arith, length-set, Placement, IsSide}
 use Rattle.pg_journeys.proofs.NarrowedPlans.{IsAsked, LandsOf, FallsOf}
-use Rattle.pg_board.specs.Placement.{Placement}
-use Rattle.pg_journeys.specs.inner.Sides.{IsSide}
 use Rattle.pg_journeys.proofs.NarrowedDeeds.{asked_of, ends_known, fall_low, wide_known, lands_next, falls_next, lands_stay, falls_stay, ends_next, all_lands, all_falls}
 use Rattle.pg_journeys.proofs.SideLemmas.{side_ground}
 use Rattle.pg_journeys.proofs.narrowing.deeds_of.Goals as goal

@@ -1,8 +1,4 @@
-use Rattle.std.proofs.Common.{◌≡◌, ◌↔◌, ℕ, ◌<◌, true, get_or, length}
-use Rattle.pg_board.specs.Bits.{has}
-use Rattle.pg_board.specs.Placement.{Placement}
-use Rattle.pg_journeys.specs.inner.Sides.{IsSide}
-use Rattle.pg_journeys.specs.inner.Deeds.{Changes}
+use Rattle.pg_journeys.proofs.Common.{◌≡◌, ◌↔◌, ℕ, ◌<◌, true, get_or, length, has, Placement, IsSide, Changes}
 use Rattle.pg_journeys.proofs.NarrowedPlans.{LandsOf, FallsOf}
 use Rattle.pg_journeys.proofs.SiftedSets.{IsJoined}
 use Rattle.pg_journeys.proofs.narrowing.deeds_of.Given as goal

@@ -1,7 +1,4 @@
-use Rattle.std.proofs.Common.{◌≡◌, ◌⊎◌, inl, inr, ◌↔◌, ◌+◌, ◌<◌, ◌≤◌, ℕ, Bool, true, get_or, sym, subst, arith}
-use Rattle.std.proofs.lemmas.Bool.{cases_lt}
-use Rattle.pg_board.specs.Bits.{has}
-use Rattle.pg_journeys.specs.inner.Narrowed.{ChangesBy}
+use Rattle.pg_journeys.proofs.Common.{◌≡◌, ◌⊎◌, inl, inr, ◌↔◌, ◌+◌, ◌<◌, ◌≤◌, ℕ, Bool, true, get_or, sym, subst, arith, cases_lt, has, ChangesBy}
 use Rattle.pg_journeys.proofs.narrowing.ends_of.Goals as goal
 
 next_end : (P : ℕ → Type 0) (old new e : ℕ) (b : Bool) → ((n : ℕ) → (has new n ≡ true) ↔ ((has old n ≡ true) ⊎ ((n ≡ e) × (b ≡ true)))) → (b ≡ true) ↔ P e → ((n : ℕ) → (has old n ≡ true) ↔ ((n < e) × P n)) → (n : ℕ) → (has new n ≡ true) ↔ ((n < e + 1) × P n)

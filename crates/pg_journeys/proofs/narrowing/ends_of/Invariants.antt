@@ -1,6 +1,4 @@
-use Rattle.std.proofs.Common.{◌≡◌, ◌↔◌, ◌<◌, ℕ, true, get_or}
-use Rattle.pg_board.specs.Bits.{has}
-use Rattle.pg_journeys.specs.inner.Narrowed.{ChangesBy}
+use Rattle.pg_journeys.proofs.Common.{◌≡◌, ◌↔◌, ◌<◌, ℕ, true, get_or, has, ChangesBy}
 use Rattle.pg_journeys.proofs.narrowing.ends_of.Given as goal
 
 abbrev pub invariant-loop-e : goal.invariant-loop-e

@@ -1,13 +1,4 @@
-use Rattle.std.proofs.Common.{◌≡◌, ◌≢◌, ◌⊎◌, ℕ, ◌<◌, inl, inr, true, sym, subst, arith}
-use Rattle.pg_board.specs.Bits.{has}
-use Rattle.pg_board.specs.SquareSets.{IsSetOf}
-use Rattle.pg_board.specs.declared.man.Color.{Color}
-use Rattle.pg_position.specs.declared.state.State.{State}
-use Rattle.pg_journeys.specs.Journeys.{HasPassed}
-use Rattle.std.proofs.Common.{Some}
-use Rattle.pg_journeys.specs.inner.Narrowed.{StandsBy, PassedBy, FallsBy}
-use Rattle.pg_journeys.specs.declared.side.Side.{Side}
-use Rattle.pg_journeys.specs.declared.plans.Walker.{Walker}
+use Rattle.pg_journeys.proofs.Common.{◌≡◌, ◌≢◌, ◌⊎◌, ℕ, ◌<◌, inl, inr, true, sym, subst, arith, has, IsSetOf, Color, State, HasPassed, Some, StandsBy, PassedBy, FallsBy, Side, Walker}
 use Rattle.pg_journeys.proofs.SiftedSets.{one_more}
 use Rattle.pg_journeys.proofs.narrowing.falls_of.Goals as goal
 

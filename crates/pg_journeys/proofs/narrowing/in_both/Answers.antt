@@ -1,6 +1,4 @@
-use Rattle.std.proofs.Common.{◌≡◌, true, get_or, sym, ◌∙◌, arith}
-use Rattle.std.proofs.lemmas.List.{get_or_read}
-use Rattle.pg_board.specs.Bits.{has}
+use Rattle.pg_journeys.proofs.Common.{◌≡◌, true, get_or, sym, ◌∙◌, arith, get_or_read, has}
 use Rattle.pg_journeys.proofs.NarrowedSteps.{HaveAt, both_have, all_kinds, with_set}
 use Rattle.pg_journeys.proofs.SiftedSets.{join_first, join_next}
 use Rattle.pg_journeys.proofs.narrowing.in_both.Goals as goal

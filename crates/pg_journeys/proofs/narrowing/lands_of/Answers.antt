@@ -1,5 +1,4 @@
-use Rattle.std.proofs.Common.{ℕ, ◌+◌, ◌<◌, get_or, subst, sym, arith}
-use Rattle.pg_journeys.specs.inner.Narrowed.{TakesTo, TakesBy}
+use Rattle.pg_journeys.proofs.Common.{ℕ, ◌+◌, ◌<◌, get_or, subst, sym, arith, TakesTo, TakesBy}
 use Rattle.pg_journeys.proofs.NarrowedSteps.{with_set}
 use Rattle.pg_journeys.proofs.SiftedSets.{IsJoined, join_first, join_next, join_none}
 use Rattle.pg_journeys.proofs.narrowing.lands_of.Goals as goal

@@ -1,4 +1,4 @@
-use Rattle.pg_journeys.specs.inner.Narrowed.{TakesBy}
+use Rattle.pg_journeys.proofs.Common.{TakesBy}
 use Rattle.pg_journeys.proofs.SiftedSets.{IsJoined}
 use Rattle.pg_journeys.proofs.narrowing.lands_of.Given as goal
 

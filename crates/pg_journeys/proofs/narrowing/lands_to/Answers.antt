@@ -1,5 +1,4 @@
-use Rattle.std.proofs.Common.{◌+◌, arith}
-use Rattle.pg_journeys.specs.inner.Narrowed.{IsInBoth, TakesAt}
+use Rattle.pg_journeys.proofs.Common.{◌+◌, arith, IsInBoth, TakesAt}
 use Rattle.pg_journeys.proofs.NarrowedSteps.{with_set, all_added, all_taken}
 use Rattle.pg_journeys.proofs.SiftedSets.{join_first, join_next}
 use Rattle.pg_journeys.proofs.SideLemmas.{side_ground}

@@ -1,4 +1,4 @@
-use Rattle.pg_journeys.specs.inner.Narrowed.{TakesAt}
+use Rattle.pg_journeys.proofs.Common.{TakesAt}
 use Rattle.pg_journeys.proofs.SiftedSets.{IsJoined}
 use Rattle.pg_journeys.proofs.narrowing.lands_to.Given as goal
 

@@ -1,5 +1,4 @@
-use Rattle.std.proofs.Common.{◌≡◌, ℕ, ◌<◌, ◌≤◌, get_or, inl, inr, subst, arith}
-use Rattle.std.proofs.lemmas.Bool.{cases_lt}
+use Rattle.pg_journeys.proofs.Common.{◌≡◌, ℕ, ◌<◌, ◌≤◌, get_or, inl, inr, subst, arith, cases_lt}
 use Rattle.pg_journeys.proofs.narrowing.widest.Goals as goal
 
 pub loop-e-preserved : goal.loop-e-preserved

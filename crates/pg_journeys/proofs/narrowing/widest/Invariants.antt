@@ -1,4 +1,4 @@
-use Rattle.std.proofs.Common.{ℕ, ◌<◌, ◌≤◌, get_or}
+use Rattle.pg_journeys.proofs.Common.{ℕ, ◌<◌, ◌≤◌, get_or}
 use Rattle.pg_journeys.proofs.narrowing.widest.Given as goal
 
 abbrev pub invariant-loop-e : goal.invariant-loop-e

@@ -1,7 +1,4 @@
-use Rattle.std.proofs.Common.{◌≡◌, ◌⊎◌, inl, inr, ◌↔◌, ◌∙◌, ℕ, ◌*◌, ◌^◌, ◌%◌, ◌<◌, true, eqb, bit_or, w32, sym, ap}
-use Rattle.std.proofs.lemmas.Bool.{cases_eq}
-use Rattle.std.proofs.lemmas.Nat.Bits.{bit_at_set_same, bit_at_set_other}
-use Rattle.pg_board.specs.Bits.{has}
+use Rattle.pg_journeys.proofs.Common.{◌≡◌, ◌⊎◌, inl, inr, ◌↔◌, ◌∙◌, ℕ, ◌*◌, ◌^◌, ◌%◌, ◌<◌, true, eqb, bit_or, w32, sym, ap, cases_eq, bit_at_set_same, bit_at_set_other, has}
 use Rattle.pg_journeys.proofs.narrowing.with_end.Goals as goal
 
 set_bit : (n e : ℕ) → e < 32 → (q : ℕ) → (has (bit_or n (1 * 2 ^ e % 2 ^ 32)) q ≡ true) ↔ ((has n q ≡ true) ⊎ (q ≡ e))

@@ -1,5 +1,4 @@
-use Rattle.std.proofs.Common.{arith}
-use Rattle.pg_journeys.specs.Known.{known}
+use Rattle.pg_journeys.proofs.Common.{arith, known}
 use Rattle.pg_journeys.proofs.FirstDead.{found_here, found_last}
 use Rattle.pg_journeys.proofs.LastRounds.{next_round, at_last, same_alive, same_sets}
 use Rattle.pg_journeys.proofs.needs.dead_in_rounds.Goals as goal

@@ -1,6 +1,4 @@
-use Rattle.std.proofs.Common.{◌≤◌}
-use Rattle.pg_journeys.specs.Known.{known}
-use Rattle.pg_journeys.specs.inner.Walking.{IsRound}
+use Rattle.pg_journeys.proofs.Common.{◌≤◌, known, IsRound}
 use Rattle.pg_journeys.proofs.needs.dead_in_rounds.Given as goal
 
 abbrev pub invariant-loop : goal.invariant-loop

@@ -1,5 +1,4 @@
-use Rattle.std.proofs.Common.{Some}
-use Rattle.pg_position.specs.declared.rights.Wing.TheVariants.{KingSide}
+use Rattle.pg_journeys.proofs.Common.{Some, KingSide}
 use Rattle.pg_journeys.proofs.WhoIsReached.{is_so, third_reached}
 use Rattle.pg_journeys.proofs.needs.is_reached.Goals as goal
 

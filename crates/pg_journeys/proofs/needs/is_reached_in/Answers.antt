@@ -1,7 +1,4 @@
-use Rattle.std.proofs.Common.{◌∙◌, ap, ℕ, get_or, rules, arith, refl}
-use Rattle.std.proofs.lemmas.Grind.{get_or_default_zero}
-use Rattle.pg_travel.specs.Origins.{counted}
-use Rattle.pg_journeys.specs.inner.Sides.{kind_at}
+use Rattle.pg_journeys.proofs.Common.{◌∙◌, ap, ℕ, get_or, rules, arith, refl, get_or_default_zero, counted, kind_at}
 use Rattle.pg_journeys.proofs.WhoIsReached.{found_in, far_next, none_in, is_so, is_not_so}
 use Rattle.pg_journeys.proofs.needs.is_reached_in.Goals as goal
 

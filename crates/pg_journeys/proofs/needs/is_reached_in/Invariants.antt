@@ -1,4 +1,4 @@
-use Rattle.std.proofs.Common.{ℕ, ◌<◌}
+use Rattle.pg_journeys.proofs.Common.{ℕ, ◌<◌}
 use Rattle.pg_journeys.proofs.WhoIsReached.{IsFar}
 use Rattle.pg_journeys.proofs.needs.is_reached_in.Given as goal
 

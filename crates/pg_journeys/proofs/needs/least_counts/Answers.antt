@@ -1,4 +1,4 @@
-use Rattle.pg_journeys.specs.Plans.{Moves, QuietMoves}
+use Rattle.pg_journeys.proofs.Common.{Moves, QuietMoves}
 use Rattle.pg_journeys.proofs.LeastNeeds.{need_here}
 use Rattle.pg_journeys.proofs.Lifting.{few_here, room_here, room_as_it_was, seen_as_it_was, side_as_it_was}
 use Rattle.pg_journeys.proofs.RestingLemmas.{lifted_few}

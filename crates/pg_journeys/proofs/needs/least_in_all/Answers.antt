@@ -1,8 +1,4 @@
-use Rattle.std.proofs.Common.{◌∙◌, ap, sym, subst, Some, None}
-use Rattle.pg_assignments.specs.Assignments.{IsLeast}
-use Rattle.pg_assignments.specs.Search.{lesser_of}
-use Rattle.pg_journeys.specs.inner.Needing.{PayInSome}
-use Rattle.pg_position.specs.declared.rights.Wing.TheVariants.{KingSide, QueenSide}
+use Rattle.pg_journeys.proofs.Common.{◌∙◌, ap, sym, subst, Some, None, IsLeast, lesser_of, PayInSome, KingSide, QueenSide}
 use Rattle.pg_journeys.proofs.LeastNeeds.{least_for, least_of_ways}
 use Rattle.pg_journeys.proofs.needs.least_in_all.Goals as goal
 

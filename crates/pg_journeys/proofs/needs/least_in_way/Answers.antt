@@ -1,7 +1,4 @@
-use Rattle.std.proofs.Common.{sym, subst, ◌∙◌, ap, ℕ}
-use Rattle.pg_assignments.specs.Assignments.{IsLeast}
-use Rattle.pg_journeys.specs.inner.Costing.{AreCostsOf}
-use Rattle.pg_journeys.specs.inner.Needing.{PayInWay, counted_with}
+use Rattle.pg_journeys.proofs.Common.{sym, subst, ◌∙◌, ap, ℕ, IsLeast, AreCostsOf, PayInWay, counted_with}
 use Rattle.pg_journeys.proofs.LeastNeeds.{least_way, least_closed}
 use Rattle.pg_journeys.proofs.needs.least_in_way.Goals as goal
 

@@ -1,4 +1,4 @@
-use Rattle.pg_journeys.specs.Known.{known}
+use Rattle.pg_journeys.proofs.Common.{known}
 use Rattle.pg_journeys.proofs.WhoIsReached.{tells_here, tells_some, tells_none}
 use Rattle.pg_journeys.proofs.Lifting.{few_here, room_here, room_as_it_was, seen_as_it_was, side_as_it_was}
 use Rattle.pg_journeys.proofs.RestingLemmas.{lifted_few}

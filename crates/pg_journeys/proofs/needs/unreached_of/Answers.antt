@@ -1,4 +1,4 @@
-use Rattle.std.proofs.Common.{◌+◌, refl}
+use Rattle.pg_journeys.proofs.Common.{◌+◌, refl}
 use Rattle.pg_journeys.proofs.WhoIsReached.{next_reached}
 use Rattle.pg_journeys.proofs.needs.unreached_of.Goals as goal
 

@@ -1,5 +1,4 @@
-use Rattle.std.proofs.Common.{ℕ, ◌<◌}
-use Rattle.pg_journeys.specs.inner.Needing.{IsReachedOf}
+use Rattle.pg_journeys.proofs.Common.{ℕ, ◌<◌, IsReachedOf}
 use Rattle.pg_journeys.proofs.needs.unreached_of.Given as goal
 
 abbrev pub invariant-loop-e : goal.invariant-loop-e

@@ -1,6 +1,4 @@
-use Rattle.pg_journeys.specs.Known.{known}
-use Rattle.pg_journeys.specs.inner.Levels.{BackWithin}
-use Rattle.pg_journeys.specs.inner.Sides.{EndWithin}
+use Rattle.pg_journeys.proofs.Common.{known, BackWithin, EndWithin}
 use Rattle.pg_journeys.proofs.EndLemmas.{rings_as}
 use Rattle.pg_journeys.proofs.plans.aim.Goals as goal
 

@@ -1,5 +1,4 @@
-use Rattle.pg_journeys.specs.inner.Levels.{BackWithin}
-use Rattle.pg_journeys.specs.inner.Sides.{facts_of, EndWithin}
+use Rattle.pg_journeys.proofs.Common.{BackWithin, facts_of, EndWithin}
 use Rattle.pg_journeys.proofs.EndLemmas.{within_as, like_itself}
 use Rattle.pg_journeys.proofs.SideLemmas.{goals_on, side_ground}
 use Rattle.pg_journeys.proofs.plans.aim_anew.Goals as goal

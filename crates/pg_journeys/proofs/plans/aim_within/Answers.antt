@@ -1,7 +1,4 @@
-use Rattle.std.proofs.Common.{subst, arith}
-use Rattle.std.proofs.lemmas.List.{get_or_default}
-use Rattle.pg_journeys.specs.inner.Rings.{AreRings}
-use Rattle.pg_journeys.specs.inner.Sides.{EndWithin}
+use Rattle.pg_journeys.proofs.Common.{subst, arith, get_or_default, AreRings, EndWithin}
 use Rattle.pg_journeys.proofs.CostLemmas.{end_more}
 use Rattle.pg_journeys.proofs.EndLemmas.{end_low}
 use Rattle.pg_journeys.proofs.RingLemmas.{ring_shows}

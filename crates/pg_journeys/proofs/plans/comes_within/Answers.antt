@@ -1,5 +1,4 @@
-use Rattle.std.proofs.Common.{◌∙◌, ap, ℕ, get_or, rules}
-use Rattle.std.proofs.lemmas.Grind.{get_or_default_zero}
+use Rattle.pg_journeys.proofs.Common.{◌∙◌, ap, ℕ, get_or, rules, get_or_default_zero}
 use Rattle.pg_journeys.proofs.EndLemmas.{comes_in}
 use Rattle.pg_journeys.proofs.plans.comes_within.Goals as goal
 

@@ -1,5 +1,4 @@
-use Rattle.std.proofs.Common.{◌+◌, refl, arith, ◌∙◌}
-use Rattle.std.proofs.Math.ListN.{length-set}
+use Rattle.pg_journeys.proofs.Common.{◌+◌, refl, arith, ◌∙◌, length-set}
 use Rattle.pg_journeys.proofs.CostLemmas.{rows_next, costs_are}
 use Rattle.pg_journeys.proofs.SideLemmas.{men_few}
 use Rattle.pg_journeys.proofs.plans.costs_by_rows.Goals as goal

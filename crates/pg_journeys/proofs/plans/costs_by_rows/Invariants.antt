@@ -1,5 +1,4 @@
-use Rattle.std.proofs.Common.{◌≡◌, length}
-use Rattle.pg_journeys.specs.inner.Costing.{AreCostRows}
+use Rattle.pg_journeys.proofs.Common.{◌≡◌, length, AreCostRows}
 use Rattle.pg_journeys.proofs.plans.costs_by_rows.Given as goal
 
 abbrev pub invariant-loop-i : goal.invariant-loop-i

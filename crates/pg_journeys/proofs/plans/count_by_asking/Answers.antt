@@ -1,5 +1,4 @@
-use Rattle.std.proofs.Common.{ℕ}
-use Rattle.pg_journeys.specs.inner.Sides.{EndWithin}
+use Rattle.pg_journeys.proofs.Common.{ℕ, EndWithin}
 use Rattle.pg_journeys.proofs.EndLemmas.{count_far, count_here, count_last, none_next}
 use Rattle.pg_journeys.proofs.plans.count_by_asking.Goals as goal
 

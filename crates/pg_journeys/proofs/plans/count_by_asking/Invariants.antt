@@ -1,5 +1,4 @@
-use Rattle.std.proofs.Common.{ℕ, ◌<◌}
-use Rattle.pg_journeys.specs.inner.Sides.{EndWithin}
+use Rattle.pg_journeys.proofs.Common.{ℕ, ◌<◌, EndWithin}
 use Rattle.pg_journeys.proofs.plans.count_by_asking.Given as goal
 
 abbrev pub invariant-loop-n : goal.invariant-loop-n

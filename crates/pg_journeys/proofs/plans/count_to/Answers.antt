@@ -1,7 +1,4 @@
-use Rattle.std.proofs.Common.{refl, subst, arith}
-use Rattle.std.proofs.lemmas.List.{get_or_default}
-use Rattle.pg_journeys.specs.inner.Rings.{AreRings}
-use Rattle.pg_journeys.specs.inner.Sides.{EndWithin}
+use Rattle.pg_journeys.proofs.Common.{refl, subst, arith, get_or_default, AreRings, EndWithin}
 use Rattle.pg_journeys.proofs.EndLemmas.{end_low, ring_out, ring_far, ring_here}
 use Rattle.pg_journeys.proofs.plans.count_to.Goals as goal
 

@@ -1,5 +1,4 @@
-use Rattle.std.proofs.Common.{refl, arith}
-use Rattle.std.proofs.lemmas.List.{get_or_default}
+use Rattle.pg_journeys.proofs.Common.{refl, arith, get_or_default}
 use Rattle.pg_journeys.proofs.EndLemmas.{goal_like, last_like}
 use Rattle.pg_journeys.proofs.plans.end_goals.Goals as goal
 

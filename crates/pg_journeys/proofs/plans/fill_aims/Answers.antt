@@ -1,4 +1,4 @@
-use Rattle.std.proofs.lemmas.Bool.{lt-ltb}
+use Rattle.pg_journeys.proofs.Common.{lt-ltb}
 use Rattle.pg_journeys.proofs.EndLemmas.{like_itself}
 use Rattle.pg_journeys.proofs.SideLemmas.{goals_on, side_ground}
 use Rattle.pg_journeys.proofs.plans.fill_aims.Goals as goal

@@ -1,5 +1,4 @@
-use Rattle.std.proofs.Common.{◌+◌, refl, arith, ◌∙◌}
-use Rattle.std.proofs.Math.ListN.{length-set}
+use Rattle.pg_journeys.proofs.Common.{◌+◌, refl, arith, ◌∙◌, length-set}
 use Rattle.pg_journeys.proofs.EndLemmas.{like_next, like_full, like_all}
 use Rattle.pg_journeys.proofs.plans.fill_ends.Goals as goal
 

@@ -1,4 +1,4 @@
-use Rattle.std.proofs.Common.{◌≡◌, length}
+use Rattle.pg_journeys.proofs.Common.{◌≡◌, length}
 use Rattle.pg_journeys.proofs.EndLemmas.{AreLikeAimsTo}
 use Rattle.pg_journeys.proofs.plans.fill_ends.Given as goal
 

@@ -1,7 +1,4 @@
-use Rattle.std.proofs.Common.{◌+◌, None, refl, subst, arith, ◌∙◌}
-use Rattle.std.proofs.Math.ListN.{length-set}
-use Rattle.pg_journeys.specs.inner.Costing.{IsCostRow}
-use Rattle.pg_journeys.specs.declared.plans.Walker.{Walker}
+use Rattle.pg_journeys.proofs.Common.{◌+◌, None, refl, subst, arith, ◌∙◌, length-set, IsCostRow, Walker}
 use Rattle.pg_journeys.proofs.CostLemmas.{rows_next}
 use Rattle.pg_journeys.proofs.SideLemmas.{men_few}
 use Rattle.pg_journeys.proofs.plans.first_costs.Goals as goal

@@ -1,5 +1,4 @@
-use Rattle.std.proofs.Common.{◌≡◌, None, length}
-use Rattle.pg_journeys.specs.inner.Costing.{AreCostRows}
+use Rattle.pg_journeys.proofs.Common.{◌≡◌, None, length, AreCostRows}
 use Rattle.pg_journeys.proofs.plans.first_costs.Given as goal
 
 abbrev pub invariant-loop-i : goal.invariant-loop-i

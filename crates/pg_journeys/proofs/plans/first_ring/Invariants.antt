@@ -1,5 +1,4 @@
-use Rattle.std.proofs.Common.{ℕ, ◌<◌}
-use Rattle.pg_journeys.specs.inner.Costing.{InRing}
+use Rattle.pg_journeys.proofs.Common.{ℕ, ◌<◌, InRing}
 use Rattle.pg_journeys.proofs.plans.first_ring.Given as goal
 
 abbrev pub invariant-loop-n : goal.invariant-loop-n

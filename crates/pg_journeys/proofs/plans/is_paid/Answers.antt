@@ -1,4 +1,4 @@
-use Rattle.std.proofs.Common.{arith, ◌-◌}
+use Rattle.pg_journeys.proofs.Common.{arith, ◌-◌}
 use Rattle.pg_journeys.proofs.CostLemmas.{charged, paid_by}
 use Rattle.pg_journeys.proofs.SideLemmas.{men_few}
 use Rattle.pg_journeys.proofs.plans.is_paid.Goals as goal

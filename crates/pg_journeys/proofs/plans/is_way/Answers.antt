@@ -1,6 +1,5 @@
-use Rattle.std.proofs.Common.{ap, ◌∙◌}
+use Rattle.pg_journeys.proofs.Common.{ap, ◌∙◌, holds}
 use Rattle.pg_position.specs.declared.rights.Rights.{Rights}
-use Rattle.pg_position.specs.Position.{holds}
 use Rattle.pg_journeys.proofs.SpanLemmas.{way_open}
 use Rattle.pg_journeys.proofs.plans.is_way.Goals as goal
 

@@ -1,5 +1,4 @@
-use Rattle.std.proofs.Common.{refl}
-use Rattle.pg_board.specs.declared.man.Kind.TheVariants.{Knight, Bishop, Rook, Queen, King}
+use Rattle.pg_journeys.proofs.Common.{refl, Knight, Bishop, Rook, Queen, King}
 use Rattle.pg_journeys.proofs.KindLemmas.{of_pawn, of_piece, all_but_kings}
 use Rattle.pg_journeys.proofs.plans.kinds_of.Goals as goal
 

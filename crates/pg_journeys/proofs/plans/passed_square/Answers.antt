@@ -1,4 +1,4 @@
-use Rattle.std.proofs.Common.{sym, ◌∙◌, rules}
+use Rattle.pg_journeys.proofs.Common.{sym, ◌∙◌, rules}
 use Rattle.pg_journeys.proofs.SpanLemmas.{passed_ahead}
 use Rattle.pg_journeys.proofs.plans.passed_square.Goals as goal
 

@@ -1,5 +1,4 @@
-use Rattle.std.proofs.Common.{◌+◌, refl, arith, ◌∙◌}
-use Rattle.std.proofs.Math.ListN.{length-set}
+use Rattle.pg_journeys.proofs.Common.{◌+◌, refl, arith, ◌∙◌, length-set}
 use Rattle.pg_journeys.proofs.CostLemmas.{comes_next, row_full, row_falls}
 use Rattle.pg_journeys.proofs.SideLemmas.{goals_few}
 use Rattle.pg_journeys.proofs.plans.row.Goals as goal

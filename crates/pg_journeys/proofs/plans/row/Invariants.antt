@@ -1,4 +1,4 @@
-use Rattle.std.proofs.Common.{◌≡◌, length}
+use Rattle.pg_journeys.proofs.Common.{◌≡◌, length}
 use Rattle.pg_journeys.proofs.CostLemmas.{AreComes}
 use Rattle.pg_journeys.proofs.plans.row.Given as goal
 

@@ -1,5 +1,4 @@
-use Rattle.pg_board.specs.declared.man.Color.TheVariants.{White, Black}
-use Rattle.pg_position.specs.declared.rights.Wing.TheVariants.{KingSide, QueenSide}
+use Rattle.pg_journeys.proofs.Common.{White, Black, KingSide, QueenSide}
 use Rattle.pg_journeys.proofs.SpanLemmas.{span_set, span_is}
 use Rattle.pg_journeys.proofs.plans.span.Goals as goal
 

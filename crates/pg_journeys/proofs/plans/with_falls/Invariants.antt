@@ -1,4 +1,4 @@
-use Rattle.std.proofs.Common.{◌≡◌, ◌<◌, ◌≤◌, ℕ, length, get_or}
+use Rattle.pg_journeys.proofs.Common.{◌≡◌, ◌<◌, ◌≤◌, ℕ, length, get_or}
 use Rattle.pg_journeys.proofs.plans.with_falls.Given as goal
 
 abbrev pub invariant-loop-k : goal.invariant-loop-k

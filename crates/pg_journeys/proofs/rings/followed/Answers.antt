@@ -1,8 +1,4 @@
-use Rattle.std.proofs.Common.{◌≡◌, ℕ, subst, arith}
-use Rattle.pg_journeys.specs.Known.{known}
-use Rattle.pg_journeys.specs.inner.Levels.{AheadWithin}
-use Rattle.pg_journeys.specs.inner.Reached.{TakesAfter}
-use Rattle.pg_journeys.specs.inner.Rings.{AreWithin}
+use Rattle.pg_journeys.proofs.Common.{◌≡◌, ℕ, subst, arith, known, AheadWithin, TakesAfter, AreWithin}
 use Rattle.pg_journeys.proofs.AheadSearches.{ahead_begin, ahead_due, ahead_amid, ahead_ring, ahead_idle, taken_begin, taken_amid, taken_ring, taken_idle}
 use Rattle.pg_journeys.proofs.rings.followed.Goals as goal
 

@@ -1,5 +1,4 @@
-use Rattle.pg_journeys.specs.Known.{known}
-use Rattle.pg_journeys.specs.inner.Searches.{IsAheadBefore, AreTakenBefore}
+use Rattle.pg_journeys.proofs.Common.{known, IsAheadBefore, AreTakenBefore}
 use Rattle.pg_journeys.proofs.rings.followed.Given as goal
 
 abbrev pub invariant-loop-m : goal.invariant-loop-m

@@ -1,5 +1,4 @@
-use Rattle.pg_journeys.specs.Known.{known}
-use Rattle.pg_journeys.specs.inner.Levels.{AheadStep, FromSome}
+use Rattle.pg_journeys.proofs.Common.{known, AheadStep, FromSome}
 use Rattle.pg_journeys.proofs.SearchLemmas.{due_turn, fewer_unseen}
 use Rattle.pg_journeys.proofs.AheadSearches.{ahead_turn, ahead_last, taken_turn, taken_last}
 use Rattle.pg_journeys.proofs.rings.look_ahead.Goals as goal

@@ -1,7 +1,4 @@
-use Rattle.std.proofs.Common.{ℕ}
-use Rattle.pg_board.specs.declared.man.Kind.{Kind}
-use Rattle.pg_journeys.specs.Known.{known}
-use Rattle.pg_journeys.specs.inner.Searches.{AreDueMet, IsAheadAmid, AreTakenAmid}
+use Rattle.pg_journeys.proofs.Common.{ℕ, Kind, known, AreDueMet, IsAheadAmid, AreTakenAmid}
 use Rattle.pg_journeys.proofs.SearchLemmas.{unseen}
 use Rattle.pg_journeys.proofs.rings.look_ahead.Given as goal
 

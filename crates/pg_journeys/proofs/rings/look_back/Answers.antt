@@ -1,5 +1,4 @@
-use Rattle.pg_journeys.specs.Known.{known}
-use Rattle.pg_journeys.specs.inner.Levels.{BackStep, FromSome}
+use Rattle.pg_journeys.proofs.Common.{known, BackStep, FromSome}
 use Rattle.pg_journeys.proofs.SearchLemmas.{due_turn, fewer_unseen}
 use Rattle.pg_journeys.proofs.BackSearches.{back_turn, back_last}
 use Rattle.pg_journeys.proofs.rings.look_back.Goals as goal

@@ -1,6 +1,4 @@
-use Rattle.std.proofs.Common.{ℕ, List}
-use Rattle.pg_journeys.specs.Known.{known}
-use Rattle.pg_journeys.specs.inner.Searches.{AreDueMet, IsBackAmid}
+use Rattle.pg_journeys.proofs.Common.{ℕ, List, known, AreDueMet, IsBackAmid}
 use Rattle.pg_journeys.proofs.SearchLemmas.{unseen}
 use Rattle.pg_journeys.proofs.rings.look_back.Given as goal
 

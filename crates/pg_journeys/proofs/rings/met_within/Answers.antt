@@ -1,7 +1,4 @@
-use Rattle.std.proofs.Common.{◌≡◌, ℕ, subst, arith}
-use Rattle.pg_journeys.specs.Known.{known}
-use Rattle.pg_journeys.specs.inner.Levels.{BackWithin}
-use Rattle.pg_journeys.specs.inner.Rings.{AreWithin}
+use Rattle.pg_journeys.proofs.Common.{◌≡◌, ℕ, subst, arith, known, BackWithin, AreWithin}
 use Rattle.pg_journeys.proofs.BackSearches.{back_begin, back_due, back_amid, back_ring, back_idle}
 use Rattle.pg_journeys.proofs.rings.met_within.Goals as goal
 

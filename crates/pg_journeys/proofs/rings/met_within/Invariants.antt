@@ -1,5 +1,4 @@
-use Rattle.pg_journeys.specs.Known.{known}
-use Rattle.pg_journeys.specs.inner.Searches.{IsBackBefore}
+use Rattle.pg_journeys.proofs.Common.{known, IsBackBefore}
 use Rattle.pg_journeys.proofs.rings.met_within.Given as goal
 
 abbrev pub invariant-loop-m : goal.invariant-loop-m

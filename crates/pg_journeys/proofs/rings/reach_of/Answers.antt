@@ -1,7 +1,4 @@
-use Rattle.std.proofs.Common.{◌+◌, true, arith, refl}
-use Rattle.pg_journeys.specs.Known.{known}
-use Rattle.pg_journeys.specs.inner.Levels.{AheadWithin}
-use Rattle.pg_journeys.specs.inner.Reached.{TakesAfter}
+use Rattle.pg_journeys.proofs.Common.{◌+◌, true, arith, refl, known, AheadWithin, TakesAfter}
 use Rattle.pg_journeys.proofs.AheadSearches.{ahead_begin, ahead_due, ahead_amid, ahead_kept, ahead_whole, taken_begin, taken_amid, taken_kept, taken_whole}
 use Rattle.pg_journeys.proofs.RingLemmas.{kept_none, rings_open, rings_whole}
 use Rattle.pg_journeys.proofs.rings.reach_of.Goals as goal

@@ -1,7 +1,4 @@
-use Rattle.pg_journeys.specs.Known.{known}
-use Rattle.pg_journeys.specs.inner.Levels.{AheadWithin}
-use Rattle.pg_journeys.specs.inner.Reached.{TakesAfter}
-use Rattle.pg_journeys.specs.inner.Searches.{IsAheadBefore, AreTakenBefore}
+use Rattle.pg_journeys.proofs.Common.{known, AheadWithin, TakesAfter, IsAheadBefore, AreTakenBefore}
 use Rattle.pg_journeys.proofs.RingLemmas.{AreKept}
 use Rattle.pg_journeys.proofs.rings.reach_of.Given as goal
 

@@ -1,6 +1,4 @@
-use Rattle.std.proofs.Common.{◌+◌, true, arith, refl}
-use Rattle.pg_journeys.specs.Known.{known}
-use Rattle.pg_journeys.specs.inner.Levels.{BackWithin}
+use Rattle.pg_journeys.proofs.Common.{◌+◌, true, arith, refl, known, BackWithin}
 use Rattle.pg_journeys.proofs.BackSearches.{back_begin, back_due, back_amid, back_kept, back_whole}
 use Rattle.pg_journeys.proofs.RingLemmas.{kept_none, rings_open, rings_whole}
 use Rattle.pg_journeys.proofs.rings.rings_to.Goals as goal

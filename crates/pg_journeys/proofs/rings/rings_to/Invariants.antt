@@ -1,6 +1,4 @@
-use Rattle.pg_journeys.specs.Known.{known}
-use Rattle.pg_journeys.specs.inner.Levels.{BackWithin}
-use Rattle.pg_journeys.specs.inner.Searches.{IsBackBefore}
+use Rattle.pg_journeys.proofs.Common.{known, BackWithin, IsBackBefore}
 use Rattle.pg_journeys.proofs.RingLemmas.{AreKept}
 use Rattle.pg_journeys.proofs.rings.rings_to.Given as goal
 

@@ -1,5 +1,4 @@
-use Rattle.pg_journeys.specs.Known.{known}
-use Rattle.pg_journeys.specs.inner.Levels.{AheadWithin}
+use Rattle.pg_journeys.proofs.Common.{known, AheadWithin}
 use Rattle.pg_journeys.proofs.RingLemmas.{ring_shows, stands_more}
 use Rattle.pg_journeys.proofs.rings.stands_within.Goals as goal
 

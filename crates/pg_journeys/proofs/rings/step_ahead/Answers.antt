@@ -1,6 +1,4 @@
-use Rattle.std.proofs.Common.{ap, sym, ℕ, false}
-use Rattle.pg_board.specs.Bits.{has}
-use Rattle.pg_journeys.specs.Known.{known}
+use Rattle.pg_journeys.proofs.Common.{ap, sym, ℕ, false, has, known}
 use Rattle.pg_journeys.proofs.AheadLemmas.{pawns_ahead, pieces_ahead, pawns_grow_ahead, pieces_grow}
 use Rattle.pg_journeys.proofs.rings.step_ahead.Goals as goal
 

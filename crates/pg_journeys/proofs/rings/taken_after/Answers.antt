@@ -1,5 +1,4 @@
-use Rattle.pg_journeys.specs.Known.{known}
-use Rattle.pg_journeys.specs.inner.Reached.{TakesAfter}
+use Rattle.pg_journeys.proofs.Common.{known, TakesAfter}
 use Rattle.pg_journeys.proofs.RingLemmas.{ring_shows, after_more}
 use Rattle.pg_journeys.proofs.rings.taken_after.Goals as goal
 

@@ -1,5 +1,4 @@
-use Rattle.std.proofs.Common.{◌-◌, arith}
-use Rattle.pg_journeys.specs.Known.{known}
+use Rattle.pg_journeys.proofs.Common.{◌-◌, arith, known}
 use Rattle.pg_journeys.proofs.RingLemmas.{takes_quiet, takes_moves, takes_nobody}
 use Rattle.pg_journeys.proofs.rings.takes_within.Goals as goal
 

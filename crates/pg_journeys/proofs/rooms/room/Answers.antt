@@ -1,4 +1,4 @@
-use Rattle.std.proofs.Common.{arith}
+use Rattle.pg_journeys.proofs.Common.{arith}
 use Rattle.pg_journeys.proofs.RoomLemmas.{room_low, room_is}
 use Rattle.pg_journeys.proofs.rooms.room.Goals as goal
 

@@ -1,4 +1,4 @@
-use Rattle.std.proofs.Common.{arith}
+use Rattle.pg_journeys.proofs.Common.{arith}
 use Rattle.pg_journeys.proofs.CostLemmas.{charged, none_paid, some_paid}
 use Rattle.pg_journeys.proofs.OneMeasure.{costs_too}
 use Rattle.pg_journeys.proofs.RoomLemmas.{rooms_are}

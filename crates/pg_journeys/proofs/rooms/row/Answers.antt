@@ -1,8 +1,5 @@
-use Rattle.std.proofs.Common.{◌≡◌, ℕ, ◌+◌, List, length, replicate, refl, sym, subst, ◌∙◌}
-use Rattle.std.proofs.Math.ListN.{length-set}
-use Rattle.std.proofs.lemmas.List.{get_or-replicate}
+use Rattle.pg_journeys.proofs.Common.{◌≡◌, ℕ, ◌+◌, List, length, replicate, refl, sym, subst, ◌∙◌, length-set, get_or-replicate, IsRoomRow}
 use Rattle.pg_journeys.proofs.RoomLemmas.{row_none, row_next, row_past}
-use Rattle.pg_journeys.specs.inner.Costing.{IsRoomRow}
 use Rattle.pg_journeys.proofs.rooms.row.Goals as goal
 use Rattle.pg_journeys.proofs.rooms.row.Goals.{then-total-paid, else-total-paid}
 

@@ -1,5 +1,4 @@
-use Rattle.std.proofs.Common.{◌≡◌, length}
-use Rattle.pg_journeys.specs.inner.Costing.{IsRoomRow}
+use Rattle.pg_journeys.proofs.Common.{◌≡◌, length, IsRoomRow}
 use Rattle.pg_journeys.proofs.rooms.row.Given as goal
 
 abbrev pub invariant-loop-j : goal.invariant-loop-j

@@ -1,5 +1,4 @@
-use Rattle.std.proofs.Common.{◌+◌, refl, arith, ◌∙◌}
-use Rattle.std.proofs.Math.ListN.{length-set}
+use Rattle.pg_journeys.proofs.Common.{◌+◌, refl, arith, ◌∙◌, length-set}
 use Rattle.pg_journeys.proofs.RoomLemmas.{rows_next}
 use Rattle.pg_journeys.proofs.rooms.rows.Goals as goal
 

@@ -1,5 +1,4 @@
-use Rattle.std.proofs.Common.{◌≡◌, length}
-use Rattle.pg_journeys.specs.inner.Costing.{AreRoomRows}
+use Rattle.pg_journeys.proofs.Common.{◌≡◌, length, AreRoomRows}
 use Rattle.pg_journeys.proofs.rooms.rows.Given as goal
 
 abbrev pub invariant-loop-i : goal.invariant-loop-i

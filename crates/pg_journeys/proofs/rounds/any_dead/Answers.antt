@@ -1,4 +1,4 @@
-use Rattle.pg_journeys.specs.Known.{known}
+use Rattle.pg_journeys.proofs.Common.{known}
 use Rattle.pg_journeys.proofs.DeadColors.{other_dead}
 use Rattle.pg_journeys.proofs.rounds.any_dead.Goals as goal
 

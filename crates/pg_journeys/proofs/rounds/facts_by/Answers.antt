@@ -1,4 +1,4 @@
-use Rattle.pg_journeys.specs.Known.{known}
+use Rattle.pg_journeys.proofs.Common.{known}
 use Rattle.pg_journeys.proofs.LastRounds.{lost_wall, lacks_men, crowded, not_few, first_hold, walk_hold, walk_last, walk_first, walk_some, walk_none}
 use Rattle.pg_journeys.proofs.rounds.facts_by.Goals as goal
 

@@ -1,5 +1,4 @@
-use Rattle.std.proofs.Common.{arith}
-use Rattle.pg_journeys.specs.Known.{known}
+use Rattle.pg_journeys.proofs.Common.{arith, known}
 use Rattle.pg_journeys.proofs.LastRounds.{next_round, round_dead, at_last, last_alive, is_not, same_alive, same_facts, same_sets}
 use Rattle.pg_journeys.proofs.rounds.last_facts.Goals as goal
 

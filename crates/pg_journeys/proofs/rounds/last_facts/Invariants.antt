@@ -1,8 +1,4 @@
-use Rattle.std.proofs.Common.{◌≤◌}
-use Rattle.std.specs.Prelude.{All}
-use Rattle.pg_journeys.specs.Known.{known}
-use Rattle.pg_journeys.specs.inner.Remembering.{IsRemembered}
-use Rattle.pg_journeys.specs.inner.Walking.{IsRound}
+use Rattle.pg_journeys.proofs.Common.{◌≤◌, All, known, IsRemembered, IsRound}
 use Rattle.pg_journeys.proofs.rounds.last_facts.Given as goal
 
 abbrev pub invariant-loop : goal.invariant-loop

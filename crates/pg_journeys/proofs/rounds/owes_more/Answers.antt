@@ -1,5 +1,5 @@
 use Rattle.pg_journeys.proofs.Budgets.{owes_too_much}
-use Rattle.pg_journeys.specs.Known.{known}
+use Rattle.pg_journeys.proofs.Common.{known}
 use Rattle.pg_journeys.proofs.rounds.owes_more.Goals as goal
 
 pub returns-in-None : goal.returns-in-None

@@ -1,7 +1,4 @@
-use Rattle.std.proofs.Common.{Option, subst}
-use Rattle.pg_journeys.specs.inner.Sides.{facts_of}
-use Rattle.pg_journeys.specs.inner.Showing.{ShowsAmong}
-use Rattle.pg_journeys.specs.declared.shown.Shown.{Shown}
+use Rattle.pg_journeys.proofs.Common.{Option, subst, facts_of, ShowsAmong, Shown}
 use Rattle.pg_journeys.proofs.ShownWays.{add_first, if_none, if_some}
 use Rattle.pg_journeys.proofs.shown.add_way.Goals as goal
 

@@ -1,4 +1,4 @@
-use Rattle.std.proofs.lemmas.Grind.{merely}
+use Rattle.pg_journeys.proofs.Common.{merely}
 use Rattle.pg_journeys.proofs.shown.by_measure.Goals as goal
 
 pub invariant_of-result : goal.invariant_of-result

@@ -1,7 +1,4 @@
-use Rattle.std.proofs.Common.{rules}
-use Rattle.std.proofs.lemmas.Grind.{get_or_default_zero}
-use Rattle.pg_journeys.specs.inner.Sides.{square_at}
-use Rattle.pg_journeys.specs.inner.Showing.{MayChange}
+use Rattle.pg_journeys.proofs.Common.{rules, get_or_default_zero, square_at, MayChange}
 use Rattle.pg_journeys.proofs.Masks.{one_more, no_more, not_so}
 use Rattle.pg_journeys.proofs.shown.changed_in.Goals as goal
 use Rattle.pg_journeys.proofs.shown.changed_in.Goals.{then-may_change, else-may_change}

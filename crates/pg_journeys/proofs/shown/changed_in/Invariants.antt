@@ -1,7 +1,4 @@
-use Rattle.std.proofs.Common.{◌≡◌, ℕ, ◌<◌}
-use Rattle.pg_board.specs.SquareSets.{IsSetOf}
-use Rattle.pg_journeys.specs.inner.Sides.{square_at}
-use Rattle.pg_journeys.specs.inner.Showing.{MayChange}
+use Rattle.pg_journeys.proofs.Common.{◌≡◌, ℕ, ◌<◌, IsSetOf, square_at, MayChange}
 use Rattle.pg_journeys.proofs.shown.changed_in.Given as goal
 
 abbrev pub invariant-loop-i : goal.invariant-loop-i

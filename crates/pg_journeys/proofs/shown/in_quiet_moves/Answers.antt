@@ -1,4 +1,4 @@
-use Rattle.std.proofs.lemmas.Grind.{merely}
+use Rattle.pg_journeys.proofs.Common.{merely}
 use Rattle.pg_journeys.proofs.OneMeasure.{measured_too}
 use Rattle.pg_journeys.proofs.shown.in_quiet_moves.Goals as goal
 

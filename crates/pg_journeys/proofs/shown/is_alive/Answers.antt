@@ -1,5 +1,5 @@
 use Rattle.pg_journeys.proofs.Paying.{is_unpaid, is_quietly}
-use Rattle.pg_journeys.specs.inner.Deeds.{IsPaidFor}
+use Rattle.pg_journeys.proofs.Common.{IsPaidFor}
 use Rattle.pg_journeys.proofs.MeasuredLemmas.{by_moves, by_quiet}
 use Rattle.pg_journeys.proofs.shown.is_alive.Goals as goal
 

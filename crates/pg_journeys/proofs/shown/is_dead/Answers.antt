@@ -1,10 +1,8 @@
-use Rattle.std.proofs.Common.{sym, ◌∙◌}
-use Rattle.pg_journeys.specs.Known.{known}
+use Rattle.pg_journeys.proofs.Common.{sym, ◌∙◌, known, lifted, lifted_from}
 use Rattle.pg_journeys.proofs.Budgets.{budgets_of, enough_of}
 use Rattle.pg_journeys.proofs.DeadColors.{alive_as, dead_here}
 use Rattle.pg_journeys.proofs.Lifting.{quiet_without}
 use Rattle.pg_journeys.proofs.RestingPlans.{dead_same}
-use Rattle.pg_journeys.specs.inner.Resting.{lifted, lifted_from}
 use Rattle.pg_journeys.proofs.RestingLemmas.{lifted_few, lifted_room}
 use Rattle.pg_journeys.proofs.shown.is_dead.Goals as goal
 

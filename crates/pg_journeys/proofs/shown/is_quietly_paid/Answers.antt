@@ -1,6 +1,4 @@
-use Rattle.std.proofs.Common.{Bool, subst}
-use Rattle.pg_journeys.specs.inner.Deeds.{IsPaidFor}
-use Rattle.pg_journeys.specs.Plans.{QuietMoves}
+use Rattle.pg_journeys.proofs.Common.{Bool, subst, IsPaidFor, QuietMoves}
 use Rattle.pg_journeys.proofs.Masks.{not_so}
 use Rattle.pg_journeys.proofs.Paying.{paid_of}
 use Rattle.pg_journeys.proofs.shown.is_quietly_paid.Goals as goal

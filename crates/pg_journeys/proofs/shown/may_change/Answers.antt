@@ -1,5 +1,4 @@
-use Rattle.std.proofs.Common.{rules}
-use Rattle.std.proofs.lemmas.Grind.{get_or_default_zero}
+use Rattle.pg_journeys.proofs.Common.{rules, get_or_default_zero}
 use Rattle.pg_journeys.proofs.Masks.{shared, or_second, at_home}
 use Rattle.pg_journeys.proofs.shown.may_change.Goals as goal
 

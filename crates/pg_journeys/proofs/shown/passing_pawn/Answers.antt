@@ -1,4 +1,4 @@
-use Rattle.std.proofs.Common.{sym, ◌∙◌}
+use Rattle.pg_journeys.proofs.Common.{sym, ◌∙◌}
 use Rattle.pg_journeys.proofs.Lifting.{passes_ahead, passer_on, none_passed}
 use Rattle.pg_journeys.proofs.shown.passing_pawn.Goals as goal
 

@@ -1,7 +1,4 @@
-use Rattle.std.proofs.Common.{sym, subst, ◌∙◌}
-use Rattle.pg_board.specs.SquareSets.{HasNoneFrom}
-use Rattle.pg_journeys.specs.Known.{landing}
-use Rattle.pg_journeys.specs.declared.side.Side.{Side}
+use Rattle.pg_journeys.proofs.Common.{sym, subst, ◌∙◌, HasNoneFrom, landing, Side}
 use Rattle.pg_journeys.proofs.Budgets.{shown_as}
 use Rattle.pg_journeys.proofs.shown.shown_by_known.Goals as goal
 

@@ -1,9 +1,4 @@
-use Rattle.std.proofs.Common.{◌≡◌, ℕ, refl, subst}
-use Rattle.pg_board.specs.Placement.{Placement}
-use Rattle.pg_journeys.specs.Plans.{QuietMoves}
-use Rattle.pg_journeys.specs.inner.Sides.{facts_of, IsSide}
-use Rattle.pg_journeys.specs.inner.Showing.{IsBudget, IsDead}
-use Rattle.pg_journeys.specs.declared.side.Side.{Side}
+use Rattle.pg_journeys.proofs.Common.{◌≡◌, ℕ, refl, subst, Placement, QuietMoves, facts_of, IsSide, IsBudget, IsDead, Side}
 use Rattle.pg_journeys.proofs.Budgets.{shown_as}
 use Rattle.pg_journeys.proofs.shown.shown_by_two.Goals as goal
 

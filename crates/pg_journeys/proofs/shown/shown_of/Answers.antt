@@ -1,9 +1,7 @@
-use Rattle.std.proofs.Common.{refl}
-use Rattle.pg_journeys.specs.Known.{known}
+use Rattle.pg_journeys.proofs.Common.{refl, known, lifted, lifted_from}
 use Rattle.pg_journeys.proofs.Budgets.{budgets_of, enough_of, shown_here}
 use Rattle.pg_journeys.proofs.Lifting.{quiet_without}
 use Rattle.pg_journeys.proofs.RestingLemmas.{lifted_few, lifted_room}
-use Rattle.pg_journeys.specs.inner.Resting.{lifted, lifted_from}
 use Rattle.pg_journeys.proofs.DecidingEnds.{steps_known}
 use Rattle.pg_journeys.proofs.shown.shown_of.Goals as goal
 

@@ -1,4 +1,4 @@
-use Rattle.std.proofs.Common.{refl, sym}
+use Rattle.pg_journeys.proofs.Common.{refl, sym}
 use Rattle.pg_journeys.proofs.Budgets.{shown_as}
 use Rattle.pg_journeys.proofs.shown.shown_with_moves.Goals as goal
 

@@ -1,5 +1,4 @@
-use Rattle.std.proofs.lemmas.Grind.{merely}
-use Rattle.pg_journeys.specs.inner.Resting.{lifted}
+use Rattle.pg_journeys.proofs.Common.{merely, lifted}
 use Rattle.pg_journeys.specs.inner.SideParts.{AreParts}
 use Rattle.pg_journeys.proofs.Lifting.{side_made}
 use Rattle.pg_journeys.proofs.shown.side_of.Goals as goal

@@ -1,6 +1,4 @@
-use Rattle.std.proofs.Common.{Some, None, refl}
-use Rattle.pg_position.specs.declared.rights.Wing.TheVariants.{KingSide}
-use Rattle.pg_journeys.specs.inner.Sides.{facts_of}
+use Rattle.pg_journeys.proofs.Common.{Some, None, refl, KingSide, facts_of}
 use Rattle.pg_journeys.proofs.DeadColors.{third_way}
 use Rattle.pg_journeys.proofs.shown.some_alive.Goals as goal
 

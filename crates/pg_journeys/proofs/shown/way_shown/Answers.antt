@@ -1,8 +1,4 @@
-use Rattle.std.proofs.Common.{ℕ, true, false, inl, inr, refl, sym, subst}
-use Rattle.pg_journeys.specs.Plans.{Moves, QuietMoves}
-use Rattle.pg_journeys.specs.inner.Showing.{IsBudget, AreBudgets, IsOneMeasure}
-use Rattle.pg_journeys.specs.inner.Deeds.{HasDeeds, HasNoPlan}
-use Rattle.pg_journeys.specs.inner.Showing.{HasRooms}
+use Rattle.pg_journeys.proofs.Common.{ℕ, true, false, inl, inr, refl, sym, subst, Moves, QuietMoves, IsBudget, AreBudgets, IsOneMeasure, HasDeeds, HasNoPlan, HasRooms}
 use Rattle.pg_journeys.proofs.MeasuredLemmas.{by_moves, by_quiet}
 use Rattle.pg_journeys.proofs.Changing.{way_shows, none_more}
 use Rattle.pg_journeys.proofs.OneMeasure.{same_deeds}

@@ -1,6 +1,4 @@
-use Rattle.std.proofs.Common.{Some, None, [], ◌∷◌}
-use Rattle.pg_position.specs.declared.rights.Wing.TheVariants.{KingSide}
-use Rattle.pg_journeys.specs.inner.Sides.{facts_of}
+use Rattle.pg_journeys.proofs.Common.{Some, None, [], ◌∷◌, KingSide, facts_of}
 use Rattle.pg_journeys.proofs.ShownWays.{all_ways}
 use Rattle.pg_journeys.proofs.shown.ways_shown.Goals as goal
 

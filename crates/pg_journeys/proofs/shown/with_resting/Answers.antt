@@ -1,4 +1,4 @@
-use Rattle.std.proofs.Common.{refl}
+use Rattle.pg_journeys.proofs.Common.{refl}
 use Rattle.pg_journeys.proofs.Lifting.{dead_back, shown_back}
 use Rattle.pg_journeys.proofs.shown.with_resting.Goals as goal
 

@@ -1,5 +1,4 @@
-use Rattle.std.proofs.Common.{Some, refl}
-use Rattle.pg_journeys.specs.inner.Sides.{facts_of}
+use Rattle.pg_journeys.proofs.Common.{Some, refl, facts_of}
 use Rattle.pg_journeys.proofs.ShownWays.{dead_way, add_next}
 use Rattle.pg_journeys.proofs.shown.with_way.Goals as goal
 

@@ -1,5 +1,4 @@
-use Rattle.std.proofs.Common.{rules}
-use Rattle.pg_judge.specs.Entries.{IsName}
+use Rattle.pg_judge.proofs.Common.{rules, IsName}
 use Rattle.pg_judge.proofs.EntryLemmas.{bad_games}
 use Rattle.pg_judge.proofs.entry.read_named.Goals as goal
 

@@ -1,8 +1,4 @@
-use Rattle.std.proofs.Common.{rules}
-use Rattle.pg_certificate.specs.Pushing.{AddsSome}
-use Rattle.pg_texts.proofs.OutcomeLemmas.{on_ok}
-use Rattle.pg_cooks.specs.Cooks.{IsShorterText}
-use Rattle.pg_judge.specs.Findings.{IsBeside}
+use Rattle.pg_judge.proofs.Common.{rules, AddsSome, on_ok, IsShorterText, IsBeside}
 use Rattle.pg_judge.proofs.RowLemmas.{beside}
 use Rattle.pg_judge.proofs.report.write_less.Goals as goal
 

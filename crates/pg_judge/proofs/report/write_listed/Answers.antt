@@ -1,8 +1,4 @@
-use Rattle.std.proofs.Common.{rules}
-use Rattle.std.specs.Io.KnownBytes.{Appends}
-use Rattle.pg_certificate.specs.Pushing.{AddsSome}
-use Rattle.pg_texts.proofs.OutcomeLemmas.{on_ok}
-use Rattle.pg_judge.specs.Findings.{IsListed, last_text}
+use Rattle.pg_judge.proofs.Common.{rules, Appends, AddsSome, on_ok, IsListed, last_text}
 use Rattle.pg_judge.proofs.RowLemmas.{beside_one}
 use Rattle.pg_judge.proofs.report.write_listed.Goals as goal
 

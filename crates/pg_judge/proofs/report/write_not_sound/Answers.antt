@@ -1,10 +1,4 @@
-use Rattle.std.proofs.Common.{List, subst, sym}
-use Rattle.pg_certificate.specs.Pushing.{AddsSome, Pushes}
-use Rattle.pg_position.specs.declared.moves.Move.{Move}
-use Rattle.pg_cooks.specs.Cooks.{IsCookText}
-use Rattle.pg_judge.specs.Findings.{IsBeside, IsTextOf}
-use Rattle.pg_judge.specs.declared.ruling.Evidence.{Evidence}
-use Rattle.pg_judge.specs.declared.ruling.Finding.TheVariants.{NotSound}
+use Rattle.pg_judge.proofs.Common.{List, subst, sym, AddsSome, Pushes, Move, IsCookText, IsBeside, IsTextOf, Evidence, NotSound}
 use Rattle.pg_judge.proofs.report.write_not_sound.Goals as goal
 
 pub returns-in-Another : goal.returns-in-Another

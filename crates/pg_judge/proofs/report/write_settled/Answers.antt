@@ -1,6 +1,4 @@
-use Rattle.std.proofs.Common.{List, ℕ, subst}
-use Rattle.pg_certificate.specs.Pushing.{AddsSome, Pushes}
-use Rattle.pg_judge.specs.Findings.{IsListed}
+use Rattle.pg_judge.proofs.Common.{List, ℕ, subst, AddsSome, Pushes, IsListed}
 use Rattle.pg_judge.proofs.report.write_settled.Goals as goal
 
 pub returns : goal.returns

@@ -1,10 +1,4 @@
-use Rattle.std.proofs.Common.{◌≡◌, ◌++◌, List, ℕ, codes, rules}
-use Rattle.std.specs.Io.KnownBytes.{Appends}
-use Rattle.pg_certificate.specs.Pushing.{AddsSome}
-use Rattle.pg_texts.specs.Report.{line_text}
-use Rattle.pg_texts.proofs.OutcomeLemmas.{on_ok}
-use Rattle.pg_judge.specs.Findings.{IsBeside}
-use Rattle.pg_judge.specs.Rows.{known_text}
+use Rattle.pg_judge.proofs.Common.{◌≡◌, ◌++◌, List, ℕ, codes, rules, Appends, AddsSome, line_text, on_ok, IsBeside, known_text}
 use Rattle.pg_judge.proofs.RowLemmas.{beside_one}
 use Rattle.pg_judge.proofs.report.write_unsettled.Goals as goal
 

@@ -1,8 +1,4 @@
-use Rattle.std.proofs.Common.{codes, rules}
-use Rattle.std.specs.Io.KnownBytes.{Appends}
-use Rattle.pg_certificate.specs.Pushing.{AddsSome}
-use Rattle.pg_texts.proofs.OutcomeLemmas.{on_ok}
-use Rattle.pg_judge.specs.Rows.{IsRowOf}
+use Rattle.pg_judge.proofs.Common.{codes, rules, Appends, AddsSome, on_ok, IsRowOf}
 use Rattle.pg_judge.proofs.RowLemmas.{row, written}
 use Rattle.pg_judge.proofs.rows.append_row.Goals as goal
 

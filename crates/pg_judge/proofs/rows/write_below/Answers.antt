@@ -1,7 +1,4 @@
-use Rattle.std.proofs.Common.{◌∙◌, rules}
-use Rattle.std.specs.Io.KnownBytes.{Appends}
-use Rattle.pg_texts.proofs.OutcomeLemmas.{on_ok}
-use Rattle.pg_judge.specs.Rows.{below_text}
+use Rattle.pg_judge.proofs.Common.{◌∙◌, rules, Appends, on_ok, below_text}
 use Rattle.pg_judge.proofs.RowLemmas.{below_grows}
 use Rattle.pg_judge.proofs.rows.write_below.Goals as goal
 

@@ -1,7 +1,4 @@
-use Rattle.std.proofs.Common.{◌++◌, codes, decimal, rules}
-use Rattle.std.specs.Io.KnownBytes.{Appends}
-use Rattle.pg_texts.proofs.OutcomeLemmas.{on_ok}
-use Rattle.pg_judge.specs.Rows.{cooks_text}
+use Rattle.pg_judge.proofs.Common.{◌++◌, codes, decimal, rules, Appends, on_ok, cooks_text}
 use Rattle.pg_judge.proofs.RowLemmas.{cooks_grow}
 use Rattle.pg_judge.proofs.rows.write_cooks.Goals as goal
 

@@ -1,7 +1,4 @@
-use Rattle.std.proofs.Common.{◌≤◌, length, rules}
-use Rattle.pg_certificate.specs.Pushing.{AddsSome}
-use Rattle.pg_texts.proofs.OutcomeLemmas.{on_ok}
-use Rattle.pg_judge.specs.Rows.{ArePair, AreShown}
+use Rattle.pg_judge.proofs.Common.{◌≤◌, length, rules, AddsSome, on_ok, ArePair, AreShown}
 use Rattle.pg_judge.proofs.RowLemmas.{more_shown}
 use Rattle.pg_judge.proofs.rows.write_list.Goals as goal
 

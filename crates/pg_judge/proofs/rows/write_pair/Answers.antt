@@ -1,7 +1,4 @@
-use Rattle.std.proofs.Common.{rules}
-use Rattle.pg_certificate.specs.Pushing.{AddsSome}
-use Rattle.pg_texts.proofs.OutcomeLemmas.{on_ok}
-use Rattle.pg_judge.specs.Rows.{ArePair, IsSecond}
+use Rattle.pg_judge.proofs.Common.{rules, AddsSome, on_ok, ArePair, IsSecond}
 use Rattle.pg_judge.proofs.RowLemmas.{pair}
 use Rattle.pg_judge.proofs.rows.write_pair.Goals as goal
 

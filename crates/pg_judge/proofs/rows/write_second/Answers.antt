@@ -1,9 +1,4 @@
-use Rattle.std.proofs.Common.{codes, rules}
-use Rattle.std.specs.Io.KnownBytes.{Appends}
-use Rattle.pg_certificate.specs.Pushing.{AddsSome}
-use Rattle.pg_texts.proofs.OutcomeLemmas.{on_ok}
-use Rattle.pg_cooks.specs.Parting.{pair_text}
-use Rattle.pg_judge.specs.Rows.{IsSecond}
+use Rattle.pg_judge.proofs.Common.{codes, rules, Appends, AddsSome, on_ok, pair_text, IsSecond}
 use Rattle.pg_judge.proofs.RowLemmas.{second}
 use Rattle.pg_judge.proofs.rows.write_second.Goals as goal
 

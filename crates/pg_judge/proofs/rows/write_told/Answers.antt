@@ -1,9 +1,4 @@
-use Rattle.std.proofs.Common.{ℕ, List, subst, rules}
-use Rattle.std.specs.Io.KnownBytes.{Appends}
-use Rattle.pg_certificate.specs.Pushing.{AddsSome}
-use Rattle.pg_texts.proofs.OutcomeLemmas.{on_ok}
-use Rattle.pg_texts.specs.Movetext.{IsMovetext}
-use Rattle.pg_judge.specs.Rows.{IsTold}
+use Rattle.pg_judge.proofs.Common.{ℕ, List, subst, rules, Appends, AddsSome, on_ok, IsMovetext, IsTold}
 use Rattle.pg_judge.proofs.RowLemmas.{told}
 use Rattle.pg_judge.proofs.rows.write_told.Goals as goal
 

@@ -1,4 +1,4 @@
-use Rattle.std.proofs.Common.{◌≡◌, ◌≤◌, ◌+◌, ◌^◌, ◌-◌, sym, arith}
+use Rattle.pg_moves.proofs.Common.{◌≡◌, ◌≤◌, ◌+◌, ◌^◌, ◌-◌, sym, arith}
 use Rattle.pg_moves.proofs.CountLemmas.{count_none, one_less, follow_is, count_whole, over, fault_up, sum_on, listed_legal}
 use Rattle.pg_moves.proofs.counting.+count.Goals as goal
 

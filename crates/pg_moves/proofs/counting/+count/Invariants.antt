@@ -1,5 +1,4 @@
-use Rattle.std.proofs.Common.{◌≡◌, ◌-◌, ◌+◌, ◌*◌, take}
-use Rattle.std.specs.List.{sum_by}
+use Rattle.pg_moves.proofs.Common.{◌≡◌, ◌-◌, ◌+◌, ◌*◌, take, sum_by}
 use Rattle.pg_moves.proofs.CountLemmas.{follow}
 use Rattle.pg_moves.proofs.counting.+count.Given as goal
 

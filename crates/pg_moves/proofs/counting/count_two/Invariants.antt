@@ -1,5 +1,4 @@
-use Rattle.std.proofs.Common.{◌≡◌, ◌≤◌, ◌-◌, ◌*◌}
-use Rattle.pg_moves.specs.inner.Places.{start_after}
+use Rattle.pg_moves.proofs.Common.{◌≡◌, ◌≤◌, ◌-◌, ◌*◌, start_after}
 use Rattle.pg_moves.proofs.SearchLemmas.{IsGood}
 use Rattle.pg_moves.proofs.PairLemmas.{AreBelow}
 use Rattle.pg_moves.proofs.counting.count_two.Given as goal

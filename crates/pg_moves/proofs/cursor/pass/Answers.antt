@@ -1,4 +1,4 @@
-use Rattle.pg_moves.specs.Left.{IsPeeked}
+use Rattle.pg_moves.proofs.Common.{IsPeeked}
 use Rattle.pg_moves.proofs.LeftLemmas.{told}
 use Rattle.pg_moves.proofs.cursor.pass.Goals as goal
 

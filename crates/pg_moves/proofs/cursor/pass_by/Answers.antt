@@ -1,4 +1,4 @@
-use Rattle.std.proofs.Common.{Some}
+use Rattle.pg_moves.proofs.Common.{Some}
 use Rattle.pg_moves.proofs.RestLemmas.{turn_past}
 use Rattle.pg_moves.proofs.TurnLemmas.{all_to_come, past_to_come}
 use Rattle.pg_moves.proofs.cursor.pass_by.Goals as goal

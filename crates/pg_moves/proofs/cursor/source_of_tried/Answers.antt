@@ -1,6 +1,4 @@
-use Rattle.std.proofs.Common.{refl}
-use Rattle.pg_moves.specs.Left.{IsPeeked}
-use Rattle.pg_moves.specs.inner.Sources.{IsSource}
+use Rattle.pg_moves.proofs.Common.{refl, IsPeeked, IsSource}
 use Rattle.pg_moves.proofs.LeftLemmas.{own_there, told_tried}
 use Rattle.pg_moves.proofs.cursor.source_of_tried.Goals as goal
 

@@ -1,10 +1,4 @@
-use Rattle.std.proofs.Common.{◌≡◌, ◌+◌, ◌<◌, ◌≤◌, Option, Some, List, sym, ap, subst, ◌∙◌, arith}
-use Rattle.pg_position.specs.declared.state.State.{State}
-use Rattle.pg_position.specs.declared.moves.Move.{Move}
-use Rattle.pg_position.specs.Step.{IsLegal}
-use Rattle.pg_moves.specs.Left.{MovesLeft}
-use Rattle.pg_moves.specs.Moves.{IsNext, IsLast}
-use Rattle.pg_moves.specs.inner.Places.{place, start_after, IsFirstMove, IsListBelow}
+use Rattle.pg_moves.proofs.Common.{◌≡◌, ◌+◌, ◌<◌, ◌≤◌, Option, Some, List, sym, ap, subst, ◌∙◌, arith, State, Move, IsLegal, MovesLeft, IsNext, IsLast, place, start_after, IsFirstMove, IsListBelow}
 use Rattle.pg_moves.proofs.ListLemmas.{on_board, list_start, list_more, list_end, if_err}
 use Rattle.pg_moves.proofs.SearchLemmas.{IsGood, found_next, none_next, start_low}
 use Rattle.pg_moves.proofs.generate.legal_moves.Goals as goal

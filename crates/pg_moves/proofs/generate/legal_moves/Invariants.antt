@@ -1,5 +1,4 @@
-use Rattle.std.proofs.Common.{◌≡◌, ◌-◌}
-use Rattle.pg_moves.specs.inner.Places.{start_after, IsListBelow}
+use Rattle.pg_moves.proofs.Common.{◌≡◌, ◌-◌, start_after, IsListBelow}
 use Rattle.pg_moves.proofs.SearchLemmas.{IsGood}
 use Rattle.pg_moves.proofs.generate.legal_moves.Given as goal
 

@@ -1,4 +1,4 @@
-use Rattle.std.proofs.Common.{None, Some, arith}
+use Rattle.pg_moves.proofs.Common.{None, Some, arith}
 use Rattle.pg_moves.proofs.SearchLemmas.{next_answer}
 use Rattle.pg_moves.proofs.generate.next_legal.Goals as goal
 

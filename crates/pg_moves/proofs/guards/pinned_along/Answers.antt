@@ -1,5 +1,4 @@
-use Rattle.std.proofs.Common.{arith}
-use Rattle.pg_board.specs.Men.{other}
+use Rattle.pg_moves.proofs.Common.{arith, other}
 use Rattle.pg_moves.proofs.OffLemmas.{left_fewer}
 use Rattle.pg_moves.proofs.PinLemmas.{none_attack, none_along, none_hidden, found_start, found_step, found_end}
 use Rattle.pg_moves.proofs.guards.pinned_along.Goals as goal

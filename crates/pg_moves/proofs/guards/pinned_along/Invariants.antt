@@ -1,6 +1,4 @@
-use Rattle.pg_board.specs.Bits.{has}
-use Rattle.pg_board.specs.Men.{other}
-use Rattle.pg_board.specs.Tally.{count_below}
+use Rattle.pg_moves.proofs.Common.{has, other, count_below}
 use Rattle.pg_moves.proofs.PinLemmas.{FoundTo}
 use Rattle.pg_moves.proofs.guards.pinned_along.Given as goal
 

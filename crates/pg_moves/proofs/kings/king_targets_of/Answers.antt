@@ -1,4 +1,4 @@
-use Rattle.pg_board.specs.declared.man.Kind.TheVariants.{King}
+use Rattle.pg_moves.proofs.Common.{King}
 use Rattle.pg_moves.proofs.LeafLemmas.{advances_at}
 use Rattle.pg_moves.proofs.StepsLemmas.{king_exact}
 use Rattle.pg_moves.proofs.kings.king_targets_of.Goals as goal

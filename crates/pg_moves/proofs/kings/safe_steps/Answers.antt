@@ -1,5 +1,4 @@
-use Rattle.std.proofs.Common.{◌∙◌, ap, arith}
-use Rattle.pg_board.specs.Placement.{Placement, without}
+use Rattle.pg_moves.proofs.Common.{◌∙◌, ap, arith, Placement, without}
 use Rattle.pg_moves.proofs.OffLemmas.{left_fewer}
 use Rattle.pg_moves.proofs.StepsLemmas.{step_is, kept_start, kept_step, kept_end, kept_none}
 use Rattle.pg_moves.proofs.kings.safe_steps.Goals as goal

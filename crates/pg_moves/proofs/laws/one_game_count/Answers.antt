@@ -1,4 +1,4 @@
-use Rattle.std.proofs.Common.{refl}
+use Rattle.pg_moves.proofs.Common.{refl}
 use Rattle.pg_moves.proofs.CountLemmas.{one_count, number_of, number_is, count_none, count_more}
 use Rattle.pg_moves.proofs.laws.one_game_count.Goals as goal
 

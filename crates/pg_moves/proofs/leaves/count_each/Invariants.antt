@@ -1,5 +1,4 @@
-use Rattle.pg_board.specs.Bits.{has}
-use Rattle.pg_board.specs.Tally.{count_below}
+use Rattle.pg_moves.proofs.Common.{has, count_below}
 use Rattle.pg_moves.proofs.OffLemmas.{IsTaking}
 use Rattle.pg_moves.proofs.leaves.count_each.Given as goal
 

@@ -1,4 +1,4 @@
-use Rattle.std.proofs.Common.{arith}
+use Rattle.pg_moves.proofs.Common.{arith}
 use Rattle.pg_moves.proofs.LeafLemmas.{exact_adds}
 use Rattle.pg_moves.proofs.SearchLemmas.{own_of}
 use Rattle.pg_moves.proofs.OffLemmas.{counted_few, counted_pinned, still_own}

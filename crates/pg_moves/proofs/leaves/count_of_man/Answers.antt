@@ -1,4 +1,4 @@
-use Rattle.pg_board.proofs.SetLemmas.{set_of_both}
+use Rattle.pg_moves.proofs.Common.{set_of_both}
 use Rattle.pg_moves.proofs.LeafLemmas.{exact_adds, advances_at, piece_ordinary}
 use Rattle.pg_moves.proofs.ExactLemmas.{guarded_exact}
 use Rattle.pg_moves.proofs.ShiftLemmas.{itself}

@@ -1,4 +1,4 @@
-use Rattle.std.proofs.Common.{arith}
+use Rattle.pg_moves.proofs.Common.{arith}
 use Rattle.pg_moves.proofs.OffLemmas.{taking_start, taking_step, taking_end, taking_few, left_fewer}
 use Rattle.pg_moves.proofs.leaves.count_of_men.Goals as goal
 

@@ -1,4 +1,4 @@
-use Rattle.pg_moves.specs.inner.Sources.{IsToldSource}
+use Rattle.pg_moves.proofs.Common.{IsToldSource}
 use Rattle.pg_moves.proofs.LeafLemmas.{exact_adds}
 use Rattle.pg_moves.proofs.leaves.count_of_square.Goals as goal
 

@@ -1,5 +1,4 @@
-use Rattle.std.proofs.Common.{arith, refl}
-use Rattle.pg_moves.specs.inner.Places.{place_of}
+use Rattle.pg_moves.proofs.Common.{arith, refl, place_of}
 use Rattle.pg_moves.proofs.LeafLemmas.{walk_start, walk_step, walk_far, walk_end}
 use Rattle.pg_moves.proofs.leaves.walked.Goals as goal
 

@@ -1,6 +1,4 @@
-use Rattle.std.proofs.Common.{◌<◌, ◌≤◌, ◌+◌, ◌-◌, ◌*◌}
-use Rattle.pg_moves.specs.inner.Places.{place_of, Adds}
-use Rattle.pg_moves.specs.Targets.{Covers}
+use Rattle.pg_moves.proofs.Common.{◌<◌, ◌≤◌, ◌+◌, ◌-◌, ◌*◌, place_of, Adds, Covers}
 use Rattle.pg_moves.proofs.leaves.walked.Given as goal
 
 abbrev pub invariant-loop-m : goal.invariant-loop-m

@@ -1,8 +1,4 @@
-use Rattle.std.proofs.Common.{◌≡◌, sym, subst}
-use Rattle.pg_board.specs.declared.man.Color.{Color}
-use Rattle.pg_board.specs.Squares.{rank}
-use Rattle.pg_board.specs.SquareSets.{IsSetOf}
-use Rattle.pg_moves.specs.inner.Steps.{leap_rank}
+use Rattle.pg_moves.proofs.Common.{◌≡◌, sym, subst, Color, rank, IsSetOf, leap_rank}
 use Rattle.pg_moves.proofs.men.leap_squares.Goals as goal
 
 pub returns-in-White : goal.returns-in-White

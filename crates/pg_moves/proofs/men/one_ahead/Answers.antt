@@ -1,5 +1,4 @@
-use Rattle.std.proofs.Common.{ap}
-use Rattle.pg_board.specs.Men.{other}
+use Rattle.pg_moves.proofs.Common.{ap, other}
 use Rattle.pg_moves.proofs.ShiftLemmas.{ahead_white, ahead_black}
 use Rattle.pg_moves.proofs.men.one_ahead.Goals as goal
 

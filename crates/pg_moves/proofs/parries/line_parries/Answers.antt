@@ -1,4 +1,4 @@
-use Rattle.std.proofs.Common.{◌+◌, ap}
+use Rattle.pg_moves.proofs.Common.{◌+◌, ap}
 use Rattle.pg_moves.proofs.WayLemmas.{kept_on, kept_end, line_attackers, line_vain, line_safe}
 use Rattle.pg_moves.proofs.parries.line_parries.Goals as goal
 

@@ -1,4 +1,4 @@
-use Rattle.std.proofs.Common.{◌+◌, ap}
+use Rattle.pg_moves.proofs.Common.{◌+◌, ap}
 use Rattle.pg_moves.proofs.WayLemmas.{kept_on, kept_end, step_attackers, step_vain, step_safe}
 use Rattle.pg_moves.proofs.parries.step_parries.Goals as goal
 

@@ -1,4 +1,4 @@
-use Rattle.std.proofs.Common.{◌-◌}
+use Rattle.pg_moves.proofs.Common.{◌-◌}
 use Rattle.pg_moves.proofs.WayLemmas.{KeptTo}
 use Rattle.pg_moves.proofs.parries.step_parries.Given as goal
 

@@ -1,4 +1,4 @@
-use Rattle.std.proofs.Common.{arith}
+use Rattle.pg_moves.proofs.Common.{arith}
 use Rattle.pg_moves.proofs.ShiftLemmas.{ahead_set}
 use Rattle.pg_moves.proofs.pawns.going_once.Goals as goal
 

@@ -1,5 +1,4 @@
-use Rattle.std.proofs.Common.{arith}
-use Rattle.pg_board.specs.Bits.{has}
+use Rattle.pg_moves.proofs.Common.{arith, has}
 use Rattle.pg_moves.proofs.ShiftLemmas.{ahead_set, fewer_inside, home_and}
 use Rattle.pg_moves.proofs.pawns.going_twice.Goals as goal
 

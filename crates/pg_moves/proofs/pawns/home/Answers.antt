@@ -1,6 +1,4 @@
-use Rattle.std.proofs.Common.{◌≡◌, ℕ, subst}
-use Rattle.pg_board.specs.Squares.{rank}
-use Rattle.pg_board.specs.SquareSets.{IsSetOf}
+use Rattle.pg_moves.proofs.Common.{◌≡◌, ℕ, subst, rank, IsSetOf}
 use Rattle.pg_moves.proofs.pawns.home.Goals as goal
 
 pub returns : goal.returns

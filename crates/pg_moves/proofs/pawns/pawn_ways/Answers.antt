@@ -1,7 +1,5 @@
-use Rattle.std.proofs.Common.{◌≤◌, not, subst}
-use Rattle.pg_board.specs.Bits.{has}
+use Rattle.pg_moves.proofs.Common.{◌≤◌, not, subst, has, to_west, to_east}
 use Rattle.pg_moves.proofs.ShiftLemmas.{fewer_inside, once_inside, twice_inside, once_set, twice_set, side_set, inside_there}
-use Rattle.pg_moves.specs.inner.Pawns.{to_west, to_east}
 use Rattle.pg_moves.proofs.pawns.pawn_ways.Goals as goal
 
 pub going_twice-twice-requires : goal.going_twice-twice-requires

@@ -1,5 +1,4 @@
-use Rattle.std.proofs.Common.{ap, ◌∙◌}
-use Rattle.pg_board.specs.Men.{other}
+use Rattle.pg_moves.proofs.Common.{ap, ◌∙◌, other}
 use Rattle.pg_moves.proofs.LeafLemmas.{piece_ordinary, pawn_ordinary, rank_ruled_out, tried_home, tried_passing}
 use Rattle.pg_moves.proofs.SearchLemmas.{not_both}
 use Rattle.pg_moves.proofs.pins.is_special.Goals as goal

@@ -1,4 +1,4 @@
-use Rattle.std.proofs.Common.{◌≤◌, arith}
+use Rattle.pg_moves.proofs.Common.{◌≤◌, arith}
 use Rattle.pg_moves.proofs.SearchLemmas.{own_of, own_at, own_found, own_next, own_end}
 use Rattle.pg_moves.proofs.search.first_move.Goals as goal
 

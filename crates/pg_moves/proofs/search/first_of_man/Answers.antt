@@ -1,4 +1,4 @@
-use Rattle.std.proofs.Common.{◌≤◌, arith}
+use Rattle.pg_moves.proofs.Common.{◌≤◌, arith}
 use Rattle.pg_moves.proofs.SearchLemmas.{target_found, target_next, target_end}
 use Rattle.pg_moves.proofs.search.first_of_man.Goals as goal
 

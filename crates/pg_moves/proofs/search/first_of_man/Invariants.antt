@@ -1,6 +1,4 @@
-use Rattle.std.proofs.Common.{◌≤◌, ◌-◌}
-use Rattle.pg_moves.specs.inner.Places.{place_of, NoneFrom}
-use Rattle.pg_moves.specs.Targets.{Covers}
+use Rattle.pg_moves.proofs.Common.{◌≤◌, ◌-◌, place_of, NoneFrom, Covers}
 use Rattle.pg_moves.proofs.search.first_of_man.Given as goal
 
 abbrev pub invariant-loop-square : goal.invariant-loop-square

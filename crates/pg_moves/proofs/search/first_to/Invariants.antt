@@ -1,4 +1,4 @@
-use Rattle.pg_moves.specs.inner.Places.{place_of, NoneFrom}
+use Rattle.pg_moves.proofs.Common.{place_of, NoneFrom}
 use Rattle.pg_moves.proofs.search.first_to.Given as goal
 
 abbrev pub invariant-loop-k : goal.invariant-loop-k

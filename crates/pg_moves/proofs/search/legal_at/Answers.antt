@@ -1,5 +1,4 @@
-use Rattle.std.proofs.Common.{ap}
-use Rattle.pg_moves.specs.inner.Places.{place_of}
+use Rattle.pg_moves.proofs.Common.{ap, place_of}
 use Rattle.pg_moves.proofs.SearchLemmas.{none_here, not_both}
 use Rattle.pg_moves.proofs.search.legal_at.Goals as goal
 

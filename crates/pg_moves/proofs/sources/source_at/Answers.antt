@@ -1,4 +1,4 @@
-use Rattle.std.proofs.Common.{sym, ◌∙◌}
+use Rattle.pg_moves.proofs.Common.{sym, ◌∙◌}
 use Rattle.pg_moves.proofs.SearchLemmas.{own_some}
 use Rattle.pg_moves.proofs.sources.source_at.Goals as goal
 

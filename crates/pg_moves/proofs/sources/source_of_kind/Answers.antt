@@ -1,4 +1,4 @@
-use Rattle.pg_moves.specs.inner.Sources.{IsToldSource}
+use Rattle.pg_moves.proofs.Common.{IsToldSource}
 use Rattle.pg_moves.proofs.LeafLemmas.{exact_free, free_there}
 use Rattle.pg_moves.proofs.sources.source_of_kind.Goals as goal
 

@@ -1,4 +1,4 @@
-use Rattle.std.proofs.Common.{sym, ◌∙◌}
+use Rattle.pg_moves.proofs.Common.{sym, ◌∙◌}
 use Rattle.pg_moves.proofs.TargetLemmas.{en_passant_set, en_passant_none}
 use Rattle.pg_moves.proofs.targets.en_passant_targets.Goals as goal
 

@@ -1,4 +1,4 @@
-use Rattle.std.proofs.Common.{◌≡◌, true, false, sym, ◌∙◌}
+use Rattle.pg_moves.proofs.Common.{◌≡◌, true, false, sym, ◌∙◌}
 use Rattle.pg_moves.proofs.TargetLemmas.{front_set, front_none}
 use Rattle.pg_moves.proofs.targets.in_front.Goals as goal
 

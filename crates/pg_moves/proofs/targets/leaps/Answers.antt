@@ -1,4 +1,4 @@
-use Rattle.std.proofs.Common.{◌≡◌, true, false, sym, ◌∙◌}
+use Rattle.pg_moves.proofs.Common.{◌≡◌, true, false, sym, ◌∙◌}
 use Rattle.pg_moves.proofs.TargetLemmas.{leap_set, leap_none}
 use Rattle.pg_moves.proofs.targets.leaps.Goals as goal
 

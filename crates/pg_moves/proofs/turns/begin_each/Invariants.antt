@@ -1,8 +1,4 @@
-use Rattle.std.proofs.Common.{◌≡◌}
-use Rattle.pg_board.specs.Bits.{has}
-use Rattle.pg_board.specs.Tally.{count_below}
-use Rattle.pg_moves.specs.Left.{men_from}
-use Rattle.pg_moves.specs.inner.Men.{AreToCome}
+use Rattle.pg_moves.proofs.Common.{◌≡◌, has, count_below, men_from, AreToCome}
 use Rattle.pg_moves.proofs.turns.begin_each.Given as goal
 
 abbrev pub invariant-loop-from : goal.invariant-loop-from

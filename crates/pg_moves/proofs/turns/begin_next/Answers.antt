@@ -1,5 +1,4 @@
-use Rattle.std.proofs.Common.{refl, arith, ◌∙◌}
-use Rattle.pg_moves.specs.Left.{IsFirstOfMan, IsFirstOfAll, men_from}
+use Rattle.pg_moves.proofs.Common.{refl, arith, ◌∙◌, IsFirstOfMan, IsFirstOfAll, men_from}
 use Rattle.pg_moves.proofs.OffLemmas.{left_fewer}
 use Rattle.pg_moves.proofs.TurnLemmas.{all_begun, come_passed, come_end}
 use Rattle.pg_moves.proofs.turns.begin_next.Goals as goal

@@ -1,5 +1,4 @@
-use Rattle.std.proofs.Common.{refl}
-use Rattle.pg_moves.specs.Left.{IsFirstOfMan}
+use Rattle.pg_moves.proofs.Common.{refl, IsFirstOfMan}
 use Rattle.pg_moves.proofs.TurnLemmas.{tried_begins}
 use Rattle.pg_moves.proofs.turns.begin_tried.Goals as goal
 

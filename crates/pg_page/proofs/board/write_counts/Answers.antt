@@ -1,9 +1,5 @@
-use Rattle.std.proofs.Common.{◌∙◌, rules}
-use Rattle.std.specs.Prelude.{codes}
-use Rattle.std.specs.Io.KnownBytes.{Appends}
-use Rattle.pg_page.specs.Board.{counts_text}
+use Rattle.pg_page.proofs.Common.{◌∙◌, rules, codes, Appends, counts_text, on_ok}
 use Rattle.pg_page.proofs.HeadLemmas.{counts_grow}
-use Rattle.pg_texts.proofs.OutcomeLemmas.{on_ok}
 use Rattle.pg_page.proofs.board.write_counts.Goals as goal
 
 pub returns : goal.returns

@@ -1,10 +1,5 @@
-use Rattle.std.proofs.Common.{◌∙◌, ap, rules}
-use Rattle.std.specs.Prelude.{codes}
-use Rattle.std.specs.Io.KnownBytes.{Appends}
-use Rattle.pg_fen.specs.Letters.{letter_of}
-use Rattle.pg_page.specs.Board.{man_text}
+use Rattle.pg_page.proofs.Common.{◌∙◌, ap, rules, codes, Appends, letter_of, man_text, on_ok}
 use Rattle.pg_page.proofs.HeadLemmas.{man_grows}
-use Rattle.pg_texts.proofs.OutcomeLemmas.{on_ok}
 use Rattle.pg_page.proofs.board.write_man.Goals as goal
 
 pub returns : goal.returns

@@ -1,7 +1,4 @@
-use Rattle.std.proofs.Common.{ℕ, refl, subst, ◌∙◌}
-use Rattle.std.specs.Io.KnownBytes.{Appends}
-use Rattle.pg_board.specs.Placement.{get}
-use Rattle.pg_page.specs.Board.{square_text}
+use Rattle.pg_page.proofs.Common.{ℕ, refl, subst, ◌∙◌, Appends, get, square_text}
 use Rattle.pg_page.proofs.HeadLemmas.{no_men, one_square_more}
 use Rattle.pg_page.proofs.board.write_men.Goals as goal
 

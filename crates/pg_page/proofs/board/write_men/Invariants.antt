@@ -1,6 +1,4 @@
-use Rattle.std.proofs.Common.{◌≡◌}
-use Rattle.std.specs.Io.KnownBytes.{Appends}
-use Rattle.pg_page.specs.Board.{men_text}
+use Rattle.pg_page.proofs.Common.{◌≡◌, Appends, men_text}
 use Rattle.pg_page.proofs.board.write_men.Given as goal
 
 -- the men on the squares so far were appended

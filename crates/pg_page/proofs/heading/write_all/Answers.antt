@@ -1,7 +1,6 @@
-use Rattle.std.proofs.Common.{◌<◌, length, refl, sym, ◌∙◌, arith}
+use Rattle.pg_page.proofs.Common.{◌<◌, length, refl, sym, ◌∙◌, arith, IsGameItem}
 use Rattle.pg_texts.proofs.ReportLemmas.{listed_game}
 use Rattle.pg_texts.proofs.ItemLemmas.{no_texts, one_text_more, all_texts}
-use Rattle.pg_page.specs.Heading.{IsGameItem}
 use Rattle.pg_page.proofs.heading.write_all.Goals as goal
 
 pub loop-i-init : goal.loop-i-init

@@ -1,6 +1,4 @@
-use Rattle.std.proofs.Common.{◌≡◌, take}
-use Rattle.pg_certificate.specs.Pushing.{AddsSome}
-use Rattle.pg_page.specs.Heading.{AreGameItems}
+use Rattle.pg_page.proofs.Common.{◌≡◌, take, AddsSome, AreGameItems}
 use Rattle.pg_page.proofs.heading.write_all.Given as goal
 
 -- the games so far were appended

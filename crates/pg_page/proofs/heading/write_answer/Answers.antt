@@ -1,8 +1,5 @@
-use Rattle.std.proofs.Common.{◌∙◌, rules}
-use Rattle.std.specs.Io.KnownBytes.{Appends}
-use Rattle.pg_page.specs.Heading.{answer_text}
+use Rattle.pg_page.proofs.Common.{◌∙◌, rules, Appends, answer_text, on_ok}
 use Rattle.pg_page.proofs.HeadLemmas.{answer_grows}
-use Rattle.pg_texts.proofs.OutcomeLemmas.{on_ok}
 use Rattle.pg_page.proofs.heading.write_answer.Goals as goal
 
 pub returns : goal.returns

@@ -1,8 +1,4 @@
-use Rattle.std.proofs.Common.{rules, arith}
-use Rattle.std.specs.Prelude.{codes}
-use Rattle.std.specs.Io.KnownBytes.{Appends}
-use Rattle.pg_texts.proofs.OutcomeLemmas.{on_ok}
-use Rattle.pg_page.specs.Heading.{verdict_words}
+use Rattle.pg_page.proofs.Common.{rules, arith, codes, Appends, on_ok, verdict_words}
 use Rattle.pg_page.proofs.HeadLemmas.{cooked_grows}
 use Rattle.pg_page.proofs.heading.write_count.Goals as goal
 

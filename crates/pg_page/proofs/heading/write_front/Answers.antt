@@ -1,9 +1,5 @@
-use Rattle.std.proofs.Common.{◌∙◌, rules}
-use Rattle.std.specs.Io.KnownBytes.{Appends}
-use Rattle.pg_page.specs.Board.{board_text}
-use Rattle.pg_page.specs.Heading.{front_text}
+use Rattle.pg_page.proofs.Common.{◌∙◌, rules, Appends, board_text, front_text, on_ok}
 use Rattle.pg_page.proofs.HeadLemmas.{front_grows}
-use Rattle.pg_texts.proofs.OutcomeLemmas.{on_ok}
 use Rattle.pg_page.proofs.heading.write_front.Goals as goal
 
 pub returns : goal.returns

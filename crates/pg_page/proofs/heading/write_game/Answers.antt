@@ -1,9 +1,4 @@
-use Rattle.std.proofs.Common.{rules}
-use Rattle.std.specs.Prelude.{codes}
-use Rattle.std.specs.Io.KnownBytes.{Appends}
-use Rattle.pg_certificate.specs.Pushing.{AddsSome}
-use Rattle.pg_texts.proofs.OutcomeLemmas.{on_ok}
-use Rattle.pg_page.specs.Heading.{IsGameItem}
+use Rattle.pg_page.proofs.Common.{rules, codes, Appends, AddsSome, on_ok, IsGameItem}
 use Rattle.pg_page.proofs.HeadLemmas.{item_grows}
 use Rattle.pg_page.proofs.heading.write_game.Goals as goal
 

@@ -1,8 +1,4 @@
-use Rattle.std.proofs.Common.{◌∙◌, rules}
-use Rattle.std.specs.Io.KnownBytes.{Appends}
-use Rattle.pg_certificate.specs.Pushing.{AddsSome}
-use Rattle.pg_texts.proofs.OutcomeLemmas.{on_ok}
-use Rattle.pg_page.specs.Heading.{IsGameList}
+use Rattle.pg_page.proofs.Common.{◌∙◌, rules, Appends, AddsSome, on_ok, IsGameList}
 use Rattle.pg_page.proofs.HeadLemmas.{list_grows}
 use Rattle.pg_page.proofs.heading.write_games.Goals as goal
 

@@ -1,7 +1,4 @@
-use Rattle.std.proofs.Common.{rules}
-use Rattle.pg_certificate.specs.Pushing.{AddsSome}
-use Rattle.pg_texts.proofs.OutcomeLemmas.{on_ok}
-use Rattle.pg_page.specs.Heading.{IsGameList, IsHead}
+use Rattle.pg_page.proofs.Common.{rules, AddsSome, on_ok, IsGameList, IsHead}
 use Rattle.pg_page.proofs.HeadLemmas.{head_grows}
 use Rattle.pg_page.proofs.heading.write_head.Goals as goal
 

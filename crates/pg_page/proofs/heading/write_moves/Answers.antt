@@ -1,5 +1,4 @@
-use Rattle.std.proofs.Common.{List, ℕ, refl, sym, subst, ◌∙◌}
-use Rattle.std.specs.Io.KnownBytes.{Appends}
+use Rattle.pg_page.proofs.Common.{List, ℕ, refl, sym, subst, ◌∙◌, Appends}
 use Rattle.pg_page.proofs.HeadLemmas.{no_moves, is_next, one_move_more, all_moves}
 use Rattle.pg_page.proofs.heading.write_moves.Goals as goal
 

@@ -1,4 +1,4 @@
-use Rattle.std.proofs.Common.{◌≡◌}
+use Rattle.pg_page.proofs.Common.{◌≡◌}
 use Rattle.pg_page.proofs.HeadLemmas.{AreMovesTo}
 use Rattle.pg_page.proofs.heading.write_moves.Given as goal
 

@@ -1,10 +1,5 @@
-use Rattle.std.proofs.Common.{rules}
-use Rattle.std.specs.Prelude.{codes}
-use Rattle.std.specs.Io.KnownBytes.{Appends}
-use Rattle.pg_page.specs.Heading.{caption_text, named_text}
-use Rattle.pg_page.specs.declared.style.TheConstants.{BEGIN}
+use Rattle.pg_page.proofs.Common.{rules, codes, Appends, caption_text, named_text, BEGIN, on_ok}
 use Rattle.pg_page.proofs.HeadLemmas.{framed_grows}
-use Rattle.pg_texts.proofs.OutcomeLemmas.{on_ok}
 use Rattle.pg_page.proofs.heading.write_named.Goals as goal
 
 pub returns : goal.returns

@@ -1,8 +1,4 @@
-use Rattle.std.proofs.Common.{rules, arith}
-use Rattle.std.specs.Prelude.{codes}
-use Rattle.std.specs.Io.KnownBytes.{Appends}
-use Rattle.pg_texts.proofs.OutcomeLemmas.{on_ok}
-use Rattle.pg_page.specs.Heading.{list_start}
+use Rattle.pg_page.proofs.Common.{rules, arith, codes, Appends, on_ok, list_start}
 use Rattle.pg_page.proofs.HeadLemmas.{folded_grows}
 use Rattle.pg_page.proofs.heading.write_start.Goals as goal
 

@@ -1,5 +1,5 @@
 use Rattle.pg_page.proofs.HeadLemmas.{whole_game}
-use Rattle.std.proofs.Common.{rules}
+use Rattle.pg_page.proofs.Common.{rules}
 use Rattle.pg_page.proofs.heading.write_words.Goals as goal
 
 pub returns-in-Ok : goal.returns-in-Ok

@@ -1,5 +1,4 @@
-use Rattle.std.proofs.Common.{◌≡◌, take}
-use Rattle.pg_page.specs.Escaping.{escaped}
+use Rattle.pg_page.proofs.Common.{◌≡◌, take, escaped}
 use Rattle.pg_page.proofs.lines.is_plain.Given as goal
 
 -- the characters so far stand for themselves

@@ -1,6 +1,4 @@
-use Rattle.std.proofs.Common.{◌≡◌, take}
-use Rattle.std.specs.Io.KnownBytes.{Appends}
-use Rattle.pg_page.specs.Escaping.{escaped}
+use Rattle.pg_page.proofs.Common.{◌≡◌, take, Appends, escaped}
 use Rattle.pg_page.proofs.lines.write_bytes.Given as goal
 
 -- the characters so far were appended

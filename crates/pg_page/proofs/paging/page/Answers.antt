@@ -1,11 +1,7 @@
-use Rattle.std.proofs.Common.{inr, subst}
-use Rattle.std.specs.Prelude.{ℕ}
-use Rattle.pg_board.specs.Placement.{Placement}
+use Rattle.pg_page.proofs.Common.{inr, subst, ℕ, Placement, terms, AddsHead}
 use Rattle.pg_checker.specs.Cuts.{any_rules_by, rules_by}
 use Rattle.pg_checker.specs.Opening.{bytes_of}
-use Rattle.pg_checker.specs.Terms.{terms}
 use Rattle.pg_checker.specs.Answering.{failures}
-use Rattle.pg_page.specs.Page.{AddsHead}
 use Rattle.pg_page.proofs.PageLemmas.{unshown}
 use Rattle.pg_page.proofs.paging.page.Goals as goal
 

@@ -1,7 +1,4 @@
-use Rattle.std.proofs.Common.{rules}
-use Rattle.pg_texts.proofs.OutcomeLemmas.{on_ok}
-use Rattle.pg_certificate.specs.Pushing.{Grows}
-use Rattle.pg_page.specs.Page.{AddsHead}
+use Rattle.pg_page.proofs.Common.{rules, on_ok, Grows, AddsHead}
 use Rattle.pg_page.proofs.HeadLemmas.{page_grows}
 use Rattle.pg_page.proofs.paging.show.Goals as goal
 

@@ -1,5 +1,4 @@
-use Rattle.std.proofs.Common.{refl, sym, ◌∙◌}
-use Rattle.pg_certificate.proofs.GrowingLemmas.{grows_none, grows_more}
+use Rattle.pg_page.proofs.Common.{refl, sym, ◌∙◌, grows_none, grows_more}
 use Rattle.pg_page.proofs.paging.write_all.Goals as goal
 
 pub loop-text-init : goal.loop-text-init

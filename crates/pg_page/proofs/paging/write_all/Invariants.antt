@@ -1,5 +1,4 @@
-use Rattle.std.proofs.Common.{◌≡◌}
-use Rattle.pg_certificate.specs.Pushing.{Grows}
+use Rattle.pg_page.proofs.Common.{◌≡◌, Grows}
 use Rattle.pg_page.proofs.paging.write_all.Given as goal
 
 -- some text was appended

@@ -1,9 +1,4 @@
-use Rattle.std.proofs.Common.{rules}
-use Rattle.std.specs.Prelude.{codes}
-use Rattle.std.specs.Io.KnownBytes.{Appends}
-use Rattle.pg_texts.proofs.OutcomeLemmas.{on_ok}
-use Rattle.pg_certificate.specs.Pushing.{Grows}
-use Rattle.pg_certificate.proofs.GrowingLemmas.{grows_more}
+use Rattle.pg_page.proofs.Common.{rules, codes, Appends, on_ok, Grows, grows_more}
 use Rattle.pg_page.proofs.paging.write_end.Goals as goal
 
 pub returns : goal.returns

@@ -1,7 +1,4 @@
-use Rattle.std.proofs.Common.{rules}
-use Rattle.pg_texts.proofs.OutcomeLemmas.{on_ok}
-use Rattle.pg_certificate.specs.Pushing.{Grows}
-use Rattle.pg_certificate.proofs.GrowingLemmas.{grows_on}
+use Rattle.pg_page.proofs.Common.{rules, on_ok, Grows, grows_on}
 use Rattle.pg_page.proofs.paging.write_proof.Goals as goal
 
 pub returns : goal.returns

@@ -1,4 +1,4 @@
-use Rattle.std.proofs.Common.{refl}
+use Rattle.pg_page.proofs.Common.{refl}
 use Rattle.pg_page.proofs.telling.reached_from.Goals as goal
 
 pub move_text-requires : goal.move_text-requires

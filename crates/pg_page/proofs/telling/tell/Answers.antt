@@ -1,5 +1,4 @@
-use Rattle.std.proofs.Common.{refl, sym, ◌∙◌}
-use Rattle.pg_certificate.proofs.GrowingLemmas.{grows_none, grows_more}
+use Rattle.pg_page.proofs.Common.{refl, sym, ◌∙◌, grows_none, grows_more}
 use Rattle.pg_page.proofs.telling.tell.Goals as goal
 
 pub loop-item-init : goal.loop-item-init

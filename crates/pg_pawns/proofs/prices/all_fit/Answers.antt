@@ -1,10 +1,4 @@
-use Rattle.std.proofs.Common.{ℕ, sym, subst, arith}
-use Rattle.pg_board.specs.declared.man.Kind.TheVariants.{Pawn}
-use Rattle.pg_position.specs.Position.{Stands}
-use Rattle.pg_captures.specs.Counting.{any_pawn}
-use Rattle.pg_captures.specs.PriceLists.{price}
-use Rattle.pg_captures.specs.lemmas.PlaceLemmas.{marks_pawns, place_first, index_low, index_within, price_at, index_next, seen_next, all_last}
-use Rattle.pg_pawns.specs.inner.PriceTests.{SourceFits}
+use Rattle.pg_pawns.proofs.Common.{ℕ, sym, subst, arith, Pawn, Stands, any_pawn, price, marks_pawns, place_first, index_low, index_within, price_at, index_next, seen_next, all_last, SourceFits}
 use Rattle.pg_pawns.proofs.PriceLemmas.{own_pawns, off_board, on_board, all_all, all_not}
 use Rattle.pg_pawns.proofs.prices.all_fit.Goals as goal
 

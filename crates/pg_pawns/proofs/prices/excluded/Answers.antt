@@ -1,8 +1,4 @@
-use Rattle.std.proofs.Common.{◌≡◌, sym, ap, ◌∙◌, arith, ◌+◌, ◌<◌}
-use Rattle.std.specs.Prelude.{sum}
-use Rattle.pg_captures.specs.Counting.{men, any_pawn}
-use Rattle.pg_captures.specs.Owed.{victims}
-use Rattle.pg_captures.specs.PriceLists.{list_of}
+use Rattle.pg_pawns.proofs.Common.{◌≡◌, sym, ap, ◌∙◌, arith, ◌+◌, ◌<◌, sum, men, any_pawn, victims, list_of}
 use Rattle.pg_pawns.proofs.PriceLemmas.{list_wrong, list_at}
 use Rattle.pg_pawns.proofs.prices.excluded.Goals as goal
 

@@ -1,6 +1,4 @@
-use Rattle.std.proofs.Common.{◌≡◌, ℕ, ap, ◌∙◌}
-use Rattle.pg_board.specs.Squares.{file}
-use Rattle.pg_position.specs.Geometry.{apart}
+use Rattle.pg_pawns.proofs.Common.{◌≡◌, ℕ, ap, ◌∙◌, file, apart}
 use Rattle.pg_pawns.proofs.PriceLemmas.{pair_low, pair_none, pair_at}
 use Rattle.pg_pawns.proofs.prices.pair_fits.Goals as goal
 

@@ -1,4 +1,4 @@
-use Rattle.pg_captures.specs.PriceLists.{list_of}
+use Rattle.pg_pawns.proofs.Common.{list_of}
 use Rattle.pg_pawns.specs.lemmas.PawnPricesLaw.{pawn_prices_barren}
 use Rattle.pg_pawns.proofs.prices.prices_exclude.Goals as goal
 

@@ -1,9 +1,4 @@
-use Rattle.std.proofs.Common.{◌≡◌, ℕ, ◌-◌, ◌<◌, ◌≤◌}
-use Rattle.pg_board.specs.declared.man.Kind.TheVariants.{Pawn}
-use Rattle.pg_position.specs.Position.{Stands}
-use Rattle.pg_captures.specs.Counting.{any_pawn}
-use Rattle.pg_captures.specs.PriceLists.{number_among, price}
-use Rattle.pg_pawns.specs.inner.PriceTests.{PairFits}
+use Rattle.pg_pawns.proofs.Common.{◌≡◌, ℕ, ◌-◌, ◌<◌, ◌≤◌, Pawn, Stands, any_pawn, number_among, price, PairFits}
 use Rattle.pg_pawns.proofs.prices.source_fits.Given as goal
 
 abbrev pub invariant-loop-t : goal.invariant-loop-t

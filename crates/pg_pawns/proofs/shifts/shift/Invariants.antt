@@ -1,6 +1,4 @@
-use Rattle.std.proofs.Common.{◌≡◌, ◌≤◌, ◌*◌}
-use Rattle.pg_board.specs.Tally.{total}
-use Rattle.pg_pawns.specs.PawnFiles.{line_need}
+use Rattle.pg_pawns.proofs.Common.{◌≡◌, ◌≤◌, ◌*◌, total, line_need}
 use Rattle.pg_pawns.proofs.shifts.shift.Given as goal
 
 -- the needs of the lines seen so far

@@ -1,5 +1,4 @@
-use Rattle.std.proofs.Common.{inl, inr, refl}
-use Rattle.pg_board.specs.declared.man.Kind.TheVariants.{Queen}
+use Rattle.pg_position.proofs.Common.{inl, inr, refl, Queen}
 use Rattle.pg_position.proofs.AttackLemmas.{along_none, along_true, along_is, along_else}
 use Rattle.pg_position.proofs.attack.attacked_along.Goals as goal
 

@@ -1,6 +1,4 @@
-use Rattle.std.proofs.Common.{refl, subst}
-use Rattle.pg_board.specs.declared.man.Color.{Color}
-use Rattle.pg_position.specs.Attack.{Attacks}
+use Rattle.pg_position.proofs.Common.{refl, subst, Color, Attacks}
 use Rattle.pg_position.proofs.SiftedKings.{fewer, king_hit, none_hit}
 use Rattle.pg_position.proofs.boards.in_check.Goals as goal
 

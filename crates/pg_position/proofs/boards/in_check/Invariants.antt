@@ -1,5 +1,4 @@
-use Rattle.pg_board.specs.Bits.{has}
-use Rattle.pg_board.specs.Tally.{count_below}
+use Rattle.pg_position.proofs.Common.{has, count_below}
 use Rattle.pg_position.proofs.SiftedKings.{AreLeft}
 use Rattle.pg_position.proofs.boards.in_check.Given as goal
 

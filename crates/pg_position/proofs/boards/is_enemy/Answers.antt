@@ -1,9 +1,4 @@
-use Rattle.std.proofs.Common.{◌∙◌}
-use Rattle.std.proofs.lemmas.Bool.Decides.{Decides-at}
-use Rattle.pg_board.specs.Men.{other}
-use Rattle.pg_board.specs.Placement.{get}
-use Rattle.pg_board.specs.lemmas.Equalities.{of_decides}
-use Rattle.pg_position.specs.Step.{IsEnemy}
+use Rattle.pg_position.proofs.Common.{◌∙◌, Decides-at, other, get, of_decides, IsEnemy}
 use Rattle.pg_position.proofs.boards.is_enemy.Goals as goal
 
 pub returns : goal.returns

@@ -1,4 +1,4 @@
-use Rattle.pg_position.specs.Squares.{king_home, rook_home}
+use Rattle.pg_position.proofs.Common.{king_home, rook_home}
 use Rattle.pg_position.proofs.CastlingLemmas.{clear_is}
 use Rattle.pg_position.proofs.castling.is_path_clear.Goals as goal
 

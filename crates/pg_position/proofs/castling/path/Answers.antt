@@ -1,5 +1,4 @@
-use Rattle.pg_board.specs.declared.man.Color.TheVariants.{White, Black}
-use Rattle.pg_position.specs.declared.rights.Wing.TheVariants.{KingSide, QueenSide}
+use Rattle.pg_position.proofs.Common.{White, Black, KingSide, QueenSide}
 use Rattle.pg_position.proofs.CastlingLemmas.{path_set, path_is}
 use Rattle.pg_position.proofs.castling.path.Goals as goal
 

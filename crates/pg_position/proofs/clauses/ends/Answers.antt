@@ -1,4 +1,4 @@
-use Rattle.pg_board.proofs.SetLemmas.{set_of_union}
+use Rattle.pg_position.proofs.Common.{set_of_union}
 use Rattle.pg_position.proofs.clauses.ends.Goals as goal
 
 pub returns : goal.returns

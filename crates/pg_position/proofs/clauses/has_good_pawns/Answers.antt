@@ -1,17 +1,4 @@
-use Rattle.std.proofs.Common.{◌≡◌, ◌≢◌, ◌<◌, ◌⊎◌, ◌↔◌, not, ℕ, Bool, IsTrue, true, false, inl, inr, refl, ap, ◌∙◌}
-use Rattle.std.proofs.lemmas.Bool.Decides.{Decides-at}
-use Rattle.pg_board.specs.declared.man.Color.{Color}
-use Rattle.pg_board.specs.declared.man.Color.TheVariants.{White, Black}
-use Rattle.pg_board.specs.declared.man.Kind.TheVariants.{Pawn}
-use Rattle.pg_board.specs.declared.man.Man.{Man}
-use Rattle.pg_board.specs.Squares.{rank}
-use Rattle.pg_board.specs.Men.{man, is_man}
-use Rattle.pg_board.specs.lemmas.Equalities.{is_man_decides}
-use Rattle.pg_board.specs.Placement.{Placement, get}
-use Rattle.pg_board.specs.Bits.{has}
-use Rattle.pg_board.specs.SquareSets.{IsSetOf, Meet}
-use Rattle.pg_board.proofs.SetLemmas.{set_of_union}
-use Rattle.pg_position.specs.Position.{Stands, PawnsClause}
+use Rattle.pg_position.proofs.Common.{◌≡◌, ◌≢◌, ◌<◌, ◌⊎◌, ◌↔◌, not, ℕ, Bool, IsTrue, true, false, inl, inr, refl, ap, ◌∙◌, Decides-at, Color, White, Black, Pawn, Man, rank, man, is_man, is_man_decides, Placement, get, has, IsSetOf, Meet, set_of_union, Stands, PawnsClause}
 use Rattle.pg_position.proofs.clauses.has_good_pawns.Goals as goal
 
 men_are : (b : Placement) (c : Color) (m : Man) (men : ℕ) → m ≡ man c Pawn → ((q : ℕ) → q < 64 → has men q ≡ is_man m (get b q)) → IsSetOf men (Stands b c Pawn)

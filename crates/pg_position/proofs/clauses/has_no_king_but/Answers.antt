@@ -1,16 +1,4 @@
-use Rattle.std.proofs.Common.{◌≡◌, ◌<◌, ◌↔◌, ◌&&◌, not, ℕ, Bool, IsTrue, true, false, inl, inr, refl, ap, ◌∙◌, arith}
-use Rattle.std.specs.Bool.{Decides}
-use Rattle.std.proofs.lemmas.Bool.Decides.{Decides-at, eqb_tells}
-use Rattle.pg_board.specs.declared.man.Color.{Color}
-use Rattle.pg_board.specs.declared.man.Kind.TheVariants.{King}
-use Rattle.pg_board.specs.declared.man.Man.{Man}
-use Rattle.pg_board.specs.Men.{man, is_man}
-use Rattle.pg_board.specs.lemmas.Equalities.{is_man_decides}
-use Rattle.pg_board.specs.Placement.{Placement, get}
-use Rattle.pg_board.specs.Bits.{has}
-use Rattle.pg_board.specs.SquareSets.{IsSetOf, HasNoneFrom}
-use Rattle.pg_board.proofs.SetLemmas.{set_of_rest}
-use Rattle.pg_position.specs.Position.{Stands}
+use Rattle.pg_position.proofs.Common.{◌≡◌, ◌<◌, ◌↔◌, ◌&&◌, not, ℕ, Bool, IsTrue, true, false, inl, inr, refl, ap, ◌∙◌, arith, Decides, Decides-at, eqb_tells, Color, King, Man, man, is_man, is_man_decides, Placement, get, has, IsSetOf, HasNoneFrom, set_of_rest, Stands}
 use Rattle.pg_position.proofs.clauses.has_no_king_but.Goals as goal
 
 module _ (b : Placement) (c : Color) (m : Man) (k kings one rest : ℕ) (same : m ≡ man c King) (are : (q : ℕ) → q < 64 → has kings q ≡ is_man m (get b q)) (alone : IsSetOf one (λ q. q ≡ k)) (left : (q : ℕ) → q < 64 → has rest q ≡ has kings q && not (has one q)) where

@@ -1,4 +1,4 @@
-use Rattle.pg_position.specs.declared.rights.Wing.TheVariants.{KingSide, QueenSide}
+use Rattle.pg_position.proofs.Common.{KingSide, QueenSide}
 use Rattle.pg_position.proofs.LegalLemmas.{not_so, king_castles, king_plain, king_capture}
 use Rattle.pg_position.proofs.legal_ways.king_way.Goals as goal
 

@@ -1,4 +1,4 @@
-use Rattle.pg_board.proofs.SetLemmas.{set_of_union}
+use Rattle.pg_position.proofs.Common.{set_of_union}
 use Rattle.pg_position.proofs.ReachLemmas.{reach_as, reach_pawn, reach_knight, reach_bishop, reach_rook, reach_queen, reach_king}
 use Rattle.pg_position.proofs.reaching.attacks_from.Goals as goal
 

@@ -1,4 +1,4 @@
-use Rattle.std.proofs.Common.{sym, ◌∙◌}
+use Rattle.pg_position.proofs.Common.{sym, ◌∙◌}
 use Rattle.pg_position.proofs.ReachLemmas.{reach_up, reach_down}
 use Rattle.pg_position.proofs.reaching.reach_along.Goals as goal
 

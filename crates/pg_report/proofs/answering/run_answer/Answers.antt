@@ -1,6 +1,4 @@
-use Rattle.std.proofs.Common.{ℕ, subst}
-use Rattle.pg_board.specs.Placement.{Placement}
-use Rattle.pg_certificate.specs.Pushing.{AddsSome}
+use Rattle.pg_report.proofs.Common.{ℕ, subst, Placement, AddsSome}
 use Rattle.pg_texts.specs.Report.{IsReport}
 use Rattle.pg_report.proofs.answering.run_answer.Goals as goal
 

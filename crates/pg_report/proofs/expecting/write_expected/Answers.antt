@@ -1,7 +1,4 @@
-use Rattle.std.proofs.Common.{◌∙◌, rules}
-use Rattle.std.specs.Io.KnownBytes.{Appends}
-use Rattle.pg_report.specs.Expecting.{expected_text}
-use Rattle.pg_texts.proofs.OutcomeLemmas.{on_ok}
+use Rattle.pg_report.proofs.Common.{◌∙◌, rules, Appends, expected_text, on_ok}
 use Rattle.pg_report.proofs.ShowLemmas.{expected_grows}
 use Rattle.pg_report.proofs.expecting.write_expected.Goals as goal
 

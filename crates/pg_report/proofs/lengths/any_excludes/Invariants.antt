@@ -1,6 +1,4 @@
-use Rattle.std.proofs.Common.{◌≡◌, drop}
-use Rattle.std.specs.List.{list_any}
-use Rattle.pg_position.specs.Array.{array_state}
+use Rattle.pg_report.proofs.Common.{◌≡◌, drop, list_any, array_state}
 use Rattle.pg_report.proofs.lengths.any_excludes.Given as goal
 
 -- the bounds so far do not exclude

@@ -1,6 +1,4 @@
-use Rattle.std.proofs.Common.{below_more, arith}
-use Rattle.std.specs.List.{list_any}
-use Rattle.pg_position.specs.Array.{array_state}
+use Rattle.pg_report.proofs.Common.{below_more, arith, list_any, array_state}
 use Rattle.pg_report.proofs.ShortestLemmas.{length_from, none_shorter, none_left, first_open}
 use Rattle.pg_report.proofs.lengths.first_open.Goals as goal
 

@@ -1,8 +1,4 @@
-use Rattle.std.proofs.Common.{◌<◌, ℕ}
-use Rattle.std.specs.List.{list_any}
-use Rattle.pg_position.specs.Array.{array_state}
-use Rattle.pg_position.specs.Game.{Barren}
-use Rattle.pg_report.specs.Shortest.{IsExcluded}
+use Rattle.pg_report.proofs.Common.{◌<◌, ℕ, list_any, array_state, Barren, IsExcluded}
 use Rattle.pg_report.proofs.lengths.first_open.Given as goal
 
 -- each length so far is excluded, and no game of it ends on the diagram

@@ -1,8 +1,5 @@
-use Rattle.std.proofs.Common.{subst, sym}
+use Rattle.pg_report.proofs.Common.{subst, sym, Terms, terms, AreSpelled, Failures, IsRunFault, Texts, failures, RunFault}
 use Rattle.pg_checker.specs.Cuts.{rules_by}
-use Rattle.pg_checker.specs.Terms.{Terms, terms}
-use Rattle.pg_report.specs.Run.{AreSpelled, Failures, IsRunFault, Texts, failures}
-use Rattle.pg_report.specs.declared.fault.RunFault.{RunFault}
 use Rattle.pg_report.proofs.RunLemmas.{no_problem, refused_with, not_of_texts}
 use Rattle.pg_report.proofs.run.run_check.Goals as goal
 

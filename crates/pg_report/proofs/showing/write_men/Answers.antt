@@ -1,9 +1,4 @@
-use Rattle.std.proofs.Common.{ap, ◌∙◌, rules}
-use Rattle.std.specs.Prelude.{codes}
-use Rattle.std.specs.Io.KnownBytes.{Appends}
-use Rattle.pg_captures.specs.Counting.{men, any_man}
-use Rattle.pg_report.specs.Showing.{counted_text, men_text}
-use Rattle.pg_texts.proofs.OutcomeLemmas.{on_ok}
+use Rattle.pg_report.proofs.Common.{ap, ◌∙◌, rules, codes, Appends, men, any_man, counted_text, men_text, on_ok}
 use Rattle.pg_report.proofs.ShowLemmas.{men_grow}
 use Rattle.pg_report.proofs.showing.write_men.Goals as goal
 

@@ -1,8 +1,4 @@
-use Rattle.std.proofs.Common.{◌++◌, ◌∙◌, rules}
-use Rattle.std.specs.Prelude.{codes}
-use Rattle.std.specs.Io.KnownBytes.{Appends}
-use Rattle.pg_report.specs.Showing.{reason_text}
-use Rattle.pg_texts.proofs.OutcomeLemmas.{on_ok}
+use Rattle.pg_report.proofs.Common.{◌++◌, ◌∙◌, rules, codes, Appends, reason_text, on_ok}
 use Rattle.pg_report.proofs.ShowLemmas.{never_grows}
 use Rattle.pg_report.proofs.showing.write_never.Goals as goal
 

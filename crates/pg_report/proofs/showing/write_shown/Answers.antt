@@ -1,9 +1,4 @@
-use Rattle.std.proofs.Common.{rules}
-use Rattle.std.specs.Io.KnownBytes.{Appends}
-use Rattle.pg_certificate.specs.Pushing.{AddsSome}
-use Rattle.pg_board.specs.declared.man.Color.TheVariants.{White, Black}
-use Rattle.pg_report.specs.Showing.{below_text, IsShown}
-use Rattle.pg_texts.proofs.OutcomeLemmas.{on_ok}
+use Rattle.pg_report.proofs.Common.{rules, Appends, AddsSome, White, Black, below_text, IsShown, on_ok}
 use Rattle.pg_report.proofs.ShowLemmas.{shown, side_of}
 use Rattle.pg_report.proofs.showing.write_shown.Goals as goal
 

@@ -1,8 +1,4 @@
-use Rattle.std.proofs.Common.{rules}
-use Rattle.std.specs.Io.KnownBytes.{Appends}
-use Rattle.pg_certificate.specs.Pushing.{AddsSome}
-use Rattle.pg_report.specs.Showing.{need_text, IsSideLine}
-use Rattle.pg_texts.proofs.OutcomeLemmas.{on_ok}
+use Rattle.pg_report.proofs.Common.{rules, Appends, AddsSome, need_text, IsSideLine, on_ok}
 use Rattle.pg_report.proofs.ShowLemmas.{side_grows}
 use Rattle.pg_report.proofs.showing.write_side.Goals as goal
 

@@ -1,5 +1,4 @@
-use Rattle.std.proofs.Common.{below_more, arith, refl, subst, ℕ, ◌≡◌}
-use Rattle.pg_report.specs.Sides.{IsLastReason}
+use Rattle.pg_report.proofs.Common.{below_more, arith, refl, subst, ℕ, ◌≡◌, IsLastReason}
 use Rattle.pg_report.proofs.ShortestLemmas.{none_left}
 use Rattle.pg_report.proofs.SideLemmas.{bound_bar, open_need}
 use Rattle.pg_report.proofs.sides.need_of.Goals as goal

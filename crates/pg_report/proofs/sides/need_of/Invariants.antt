@@ -1,7 +1,4 @@
-use Rattle.std.proofs.Common.{◌<◌, ℕ}
-use Rattle.pg_position.specs.Array.{array_state}
-use Rattle.pg_position.specs.Game.{Barren}
-use Rattle.pg_report.specs.Sides.{IsLastReason}
+use Rattle.pg_report.proofs.Common.{◌<◌, ℕ, array_state, Barren, IsLastReason}
 use Rattle.pg_report.proofs.sides.need_of.Given as goal
 
 -- no game of fewer plies ends on the diagram, and the reason is the one against the last number of plies

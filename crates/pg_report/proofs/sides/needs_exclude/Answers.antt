@@ -1,4 +1,4 @@
-use Rattle.std.proofs.Common.{◌∙◌}
+use Rattle.pg_report.proofs.Common.{◌∙◌}
 use Rattle.pg_report.proofs.SideLemmas.{need_told, never_told}
 use Rattle.pg_report.proofs.sides.needs_exclude.Goals as goal
 

@@ -1,8 +1,4 @@
-use Rattle.std.proofs.Common.{rules}
-use Rattle.std.specs.Io.KnownBytes.{Appends}
-use Rattle.pg_board.specs.Bits.{has}
-use Rattle.pg_report.specs.Within.{known_line, facts_text}
-use Rattle.pg_texts.proofs.OutcomeLemmas.{on_ok}
+use Rattle.pg_report.proofs.Common.{rules, Appends, has, known_line, facts_text, on_ok}
 use Rattle.pg_report.proofs.WithinLemmas.{facts_grow}
 use Rattle.pg_report.proofs.within.write_facts.Goals as goal
 

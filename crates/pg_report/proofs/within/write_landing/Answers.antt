@@ -1,10 +1,4 @@
-use Rattle.std.proofs.Common.{◌++◌, rules}
-use Rattle.std.specs.Prelude.{codes}
-use Rattle.std.specs.Io.KnownBytes.{Appends}
-use Rattle.pg_board.specs.Bits.{has}
-use Rattle.pg_report.specs.declared.within.Naming.TheVariants.{Squares}
-use Rattle.pg_report.specs.Within.{list_text}
-use Rattle.pg_texts.proofs.OutcomeLemmas.{on_ok}
+use Rattle.pg_report.proofs.Common.{◌++◌, rules, codes, Appends, has, Squares, list_text, on_ok}
 use Rattle.pg_report.proofs.WithinLemmas.{landing_grows}
 use Rattle.pg_report.proofs.within.write_landing.Goals as goal
 

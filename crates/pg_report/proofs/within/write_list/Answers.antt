@@ -1,6 +1,4 @@
-use Rattle.std.proofs.Common.{refl, ◌∙◌, arith}
-use Rattle.pg_board.specs.Bits.{has}
-use Rattle.pg_board.specs.lemmas.Sums.{count_below-le}
+use Rattle.pg_report.proofs.Common.{refl, ◌∙◌, arith, has, count_below-le}
 use Rattle.pg_report.proofs.WithinLemmas.{no_places, none_counted, one_place_more, one_counted}
 use Rattle.pg_report.proofs.within.write_list.Goals as goal
 

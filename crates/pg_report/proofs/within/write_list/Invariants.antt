@@ -1,8 +1,4 @@
-use Rattle.std.proofs.Common.{◌≡◌}
-use Rattle.std.specs.Io.KnownBytes.{Appends}
-use Rattle.pg_board.specs.Bits.{has}
-use Rattle.pg_board.specs.Tally.{count_below}
-use Rattle.pg_report.specs.Within.{list_text}
+use Rattle.pg_report.proofs.Common.{◌≡◌, Appends, has, count_below, list_text}
 use Rattle.pg_report.proofs.within.write_list.Given as goal
 
 -- the names of the squares so far were appended, and these are counted

@@ -1,8 +1,4 @@
-use Rattle.std.proofs.Common.{◌++◌, ◌∙◌, rules}
-use Rattle.std.specs.Prelude.{codes}
-use Rattle.std.specs.Io.KnownBytes.{Appends}
-use Rattle.pg_fen.specs.Lengths.{length_text}
-use Rattle.pg_texts.proofs.OutcomeLemmas.{on_ok}
+use Rattle.pg_report.proofs.Common.{◌++◌, ◌∙◌, rules, codes, Appends, length_text, on_ok}
 use Rattle.pg_report.proofs.WithinLemmas.{no_game_grows}
 use Rattle.pg_report.proofs.within.write_no_game.Goals as goal
 

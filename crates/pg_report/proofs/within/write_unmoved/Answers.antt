@@ -1,9 +1,4 @@
-use Rattle.std.proofs.Common.{rules}
-use Rattle.std.specs.Io.KnownBytes.{Appends}
-use Rattle.pg_board.specs.Bits.{has}
-use Rattle.pg_report.specs.declared.within.Naming.TheVariants.{Men}
-use Rattle.pg_report.specs.Within.{list_text, unmoved_text}
-use Rattle.pg_texts.proofs.OutcomeLemmas.{on_ok}
+use Rattle.pg_report.proofs.Common.{rules, Appends, has, Men, list_text, unmoved_text, on_ok}
 use Rattle.pg_report.proofs.WithinLemmas.{unmoved_grow}
 use Rattle.pg_report.proofs.within.write_unmoved.Goals as goal
 

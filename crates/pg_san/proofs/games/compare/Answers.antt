@@ -1,4 +1,4 @@
-use Rattle.std.proofs.Common.{arith}
+use Rattle.pg_san.proofs.Common.{arith}
 use Rattle.pg_san.proofs.CompareLemmas.{second_ends, first_ends}
 use Rattle.pg_san.proofs.games.compare.Goals as goal
 

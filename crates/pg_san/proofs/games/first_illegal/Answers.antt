@@ -1,4 +1,4 @@
-use Rattle.std.proofs.Common.{refl, arith}
+use Rattle.pg_san.proofs.Common.{refl, arith}
 use Rattle.pg_san.proofs.GameLemmas.{whole_game, illegal_at, step_game}
 use Rattle.pg_san.proofs.SharedLemmas.{shared_legal}
 use Rattle.pg_san.proofs.games.first_illegal.Goals as goal

@@ -1,6 +1,4 @@
-use Rattle.std.proofs.Common.{◌≡◌, sym, subst, ◌∙◌}
-use Rattle.std.specs.declared.cmp.Ordering.TheVariants.{Less}
-use Rattle.pg_san.specs.Games.{game_cmp}
+use Rattle.pg_san.proofs.Common.{◌≡◌, sym, subst, ◌∙◌, Less, game_cmp}
 use Rattle.pg_san.proofs.PlaceLemmas.{behind_all}
 use Rattle.pg_san.proofs.games.is_behind.Goals as goal
 

@@ -1,7 +1,5 @@
-use Rattle.std.proofs.Common.{ℕ, Option, MatchOption, map, sym, subst, rules}
+use Rattle.pg_san.proofs.Common.{ℕ, Option, MatchOption, map, sym, subst, rules, Contains, game_cmp, IsPlace}
 use Rattle.std.proofs.lemmas.Fn.{always_returns_same}
-use Rattle.std.specs.List.{Contains}
-use Rattle.pg_san.specs.Games.{game_cmp, IsPlace}
 use Rattle.pg_san.proofs.PlaceLemmas.{searched}
 use Rattle.pg_san.proofs.games.place.Goals as goal
 

@@ -1,4 +1,4 @@
-use Rattle.std.proofs.Common.{◌≡◌, ◌≤◌, length, take}
+use Rattle.pg_san.proofs.Common.{◌≡◌, ◌≤◌, length, take}
 use Rattle.pg_san.proofs.games.shared.Given as goal
 
 -- the moves so far are the same

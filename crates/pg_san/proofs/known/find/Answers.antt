@@ -1,5 +1,4 @@
-use Rattle.std.proofs.Common.{◌<◌, length, bit_or, arith}
-use Rattle.std.proofs.lemmas.Bool.Decides.{nat_tests}
+use Rattle.pg_san.proofs.Common.{◌<◌, length, bit_or, arith, nat_tests}
 use Rattle.pg_san.proofs.KnownLemmas.{recalled}
 use Rattle.pg_san.proofs.known.find.Goals as goal
 

@@ -1,4 +1,4 @@
-use Rattle.std.proofs.Common.{[], ◌∷◌, drop, length}
+use Rattle.pg_san.proofs.Common.{[], ◌∷◌, drop, length}
 use Rattle.pg_san.proofs.KnownLemmas.{kept}
 use Rattle.pg_san.proofs.known.known_of.Goals as goal
 

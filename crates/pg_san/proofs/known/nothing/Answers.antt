@@ -1,4 +1,4 @@
-use Rattle.std.proofs.Common.{arith}
+use Rattle.pg_san.proofs.Common.{arith}
 use Rattle.pg_san.proofs.KnownLemmas.{says_nothing}
 use Rattle.pg_san.proofs.known.nothing.Goals as goal
 

@@ -1,8 +1,4 @@
-use Rattle.std.proofs.Common.{◌<◌, length, bit_or, arith}
-use Rattle.std.specs.Prelude.{All}
-use Rattle.std.proofs.lemmas.Bool.Decides.{nat_tests}
-use Rattle.std.proofs.lemmas.List.Elements.{All-set}
-use Rattle.pg_san.specs.KnownReadings.{IsKnown}
+use Rattle.pg_san.proofs.Common.{◌<◌, length, bit_or, arith, All, nat_tests, All-set, IsKnown}
 use Rattle.pg_san.proofs.KnownLemmas.{kept_beside}
 use Rattle.pg_san.proofs.known.remember.Goals.{then-beside-known, else-beside-known}
 use Rattle.pg_san.proofs.known.remember.Goals as goal

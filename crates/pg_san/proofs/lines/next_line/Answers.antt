@@ -1,5 +1,4 @@
-use Rattle.std.proofs.Common.{◌+◌}
-use Rattle.std.proofs.lemmas.List.{take_rest}
+use Rattle.pg_san.proofs.Common.{◌+◌, take_rest}
 use Rattle.pg_san.proofs.LineLemmas.{line_at, line_all}
 use Rattle.pg_san.proofs.lines.next_line.Goals as goal
 

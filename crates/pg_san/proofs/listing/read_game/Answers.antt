@@ -1,5 +1,4 @@
-use Rattle.std.proofs.Common.{◌≡◌, ◌≢◌, sym, ◌∙◌, true, false}
-use Rattle.pg_san.specs.GameText.{words, dash}
+use Rattle.pg_san.proofs.Common.{◌≡◌, ◌≢◌, sym, ◌∙◌, true, false, words, dash}
 use Rattle.pg_san.proofs.ListingLemmas.{dash_line, read_line}
 use Rattle.pg_san.proofs.listing.read_game.Goals as goal
 

@@ -1,6 +1,4 @@
-use Rattle.std.proofs.Common.{◌≡◌, ◌≤◌, ◌<◌, ◌+◌, ◌∷◌, length, ap, ◌∙◌, arith}
-use Rattle.pg_san.specs.GameText.{lines}
-use Rattle.pg_san.specs.TextLeft.{lines_left, length_left}
+use Rattle.pg_san.proofs.Common.{◌≡◌, ◌≤◌, ◌<◌, ◌+◌, ◌∷◌, length, ap, ◌∙◌, arith, lines, lines_left, length_left}
 use Rattle.pg_san.proofs.OrderLemmas.{no_games}
 use Rattle.pg_san.proofs.ListingLemmas.{read_none, read_line_more, read_all, read_fault}
 use Rattle.pg_san.proofs.listing.read_games.Goals as goal

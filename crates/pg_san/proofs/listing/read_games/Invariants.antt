@@ -1,6 +1,4 @@
-use Rattle.std.proofs.Common.{◌≤◌, ◌+◌, length}
-use Rattle.pg_san.specs.GameText.{lines}
-use Rattle.pg_san.specs.TextLeft.{lines_left, length_left}
+use Rattle.pg_san.proofs.Common.{◌≤◌, ◌+◌, length, lines, lines_left, length_left}
 use Rattle.pg_san.proofs.ListingLemmas.{IsReadTo}
 use Rattle.pg_san.proofs.listing.read_games.Given as goal
 

@@ -1,7 +1,4 @@
-use Rattle.std.proofs.Common.{◌≡◌, ◌<◌, [], length, sym, ◌∙◌, arith}
-use Rattle.std.proofs.lemmas.Bool.Decides.{nat_tests}
-use Rattle.std.proofs.lemmas.List.{nil_from_length}
-use Rattle.pg_san.specs.GameText.{words, without_move_number}
+use Rattle.pg_san.proofs.Common.{◌≡◌, ◌<◌, [], length, sym, ◌∙◌, arith, nat_tests, nil_from_length, words, without_move_number}
 use Rattle.pg_san.proofs.WordReadingLemmas.{so_none, so_skip, so_move, so_bad, so_kept, so_lost}
 use Rattle.pg_san.proofs.listing.read_words.Goals as goal
 

@@ -1,5 +1,4 @@
-use Rattle.std.proofs.Common.{◌≤◌, ◌+◌, length}
-use Rattle.pg_san.specs.GameText.{words}
+use Rattle.pg_san.proofs.Common.{◌≤◌, ◌+◌, length, words}
 use Rattle.pg_san.proofs.WordReadingLemmas.{IsSpelledSo}
 use Rattle.pg_san.proofs.listing.read_words.Given as goal
 

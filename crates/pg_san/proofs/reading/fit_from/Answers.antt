@@ -1,5 +1,4 @@
-use Rattle.std.proofs.Common.{refl}
-use Rattle.pg_moves.proofs.SearchLemmas.{not_both}
+use Rattle.pg_san.proofs.Common.{refl, not_both}
 use Rattle.pg_san.proofs.SourceLemmas.{fit_not_said, fit_not_legal}
 use Rattle.pg_san.proofs.reading.fit_from.Goals as goal
 

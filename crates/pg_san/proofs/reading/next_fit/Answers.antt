@@ -1,4 +1,4 @@
-use Rattle.std.proofs.Common.{ap, ◌+◌}
+use Rattle.pg_san.proofs.Common.{ap, ◌+◌}
 use Rattle.pg_san.proofs.WalkLemmas.{walk_start, walk_on, walk_found, walk_end}
 use Rattle.pg_san.proofs.reading.next_fit.Goals as goal
 

@@ -1,4 +1,4 @@
-use Rattle.std.proofs.Common.{◌-◌}
+use Rattle.pg_san.proofs.Common.{◌-◌}
 use Rattle.pg_san.proofs.WalkLemmas.{WalkedTo}
 use Rattle.pg_san.proofs.reading.next_fit.Given as goal
 

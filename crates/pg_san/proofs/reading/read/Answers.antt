@@ -1,6 +1,4 @@
-use Rattle.std.proofs.Common.{subst}
-use Rattle.std.specs.Prelude.{ℕ, List, Err}
-use Rattle.pg_san.specs.Matching.{IsReading}
+use Rattle.pg_san.proofs.Common.{subst, ℕ, List, Err, IsReading}
 use Rattle.pg_san.proofs.reading.read.Goals as goal
 
 pub returns-in-Err : goal.returns-in-Err

@@ -1,4 +1,4 @@
-use Rattle.std.proofs.Common.{sym}
+use Rattle.pg_san.proofs.Common.{sym}
 use Rattle.pg_san.proofs.TextFoundLemmas.{nothing_said}
 use Rattle.pg_san.proofs.WalkLemmas.{read_so}
 use Rattle.pg_san.proofs.reading.read_step.Goals as goal

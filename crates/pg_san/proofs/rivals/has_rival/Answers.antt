@@ -1,5 +1,4 @@
-use Rattle.std.proofs.Common.{refl}
-use Rattle.pg_moves.proofs.SearchLemmas.{not_both}
+use Rattle.pg_san.proofs.Common.{refl, not_both}
 use Rattle.pg_san.proofs.RivalLemmas.{rival_found, rival_next, rival_none}
 use Rattle.pg_san.proofs.rivals.has_rival.Goals as goal
 

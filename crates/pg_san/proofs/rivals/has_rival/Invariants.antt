@@ -1,5 +1,4 @@
-use Rattle.std.proofs.Common.{ℕ, ◌-◌, ◌<◌}
-use Rattle.pg_san.specs.Writing.{IsRivalOn}
+use Rattle.pg_san.proofs.Common.{ℕ, ◌-◌, ◌<◌, IsRivalOn}
 use Rattle.pg_san.proofs.rivals.has_rival.Given as goal
 
 abbrev pub invariant-loop-square : goal.invariant-loop-square

@@ -1,4 +1,4 @@
-use Rattle.std.proofs.Common.{refl, arith}
+use Rattle.pg_san.proofs.Common.{refl, arith}
 use Rattle.pg_san.proofs.SourceLemmas.{file_at}
 use Rattle.pg_san.proofs.sources.file_squares.Goals as goal
 

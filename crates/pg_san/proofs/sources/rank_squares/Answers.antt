@@ -1,4 +1,4 @@
-use Rattle.std.proofs.Common.{refl, arith}
+use Rattle.pg_san.proofs.Common.{refl, arith}
 use Rattle.pg_san.proofs.SourceLemmas.{rank_at}
 use Rattle.pg_san.proofs.sources.rank_squares.Goals as goal
 

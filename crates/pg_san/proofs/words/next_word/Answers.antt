@@ -1,6 +1,5 @@
-use Rattle.std.proofs.Common.{◌<◌, length, ℕ, take, drop, ap, ◌∙◌, arith}
+use Rattle.pg_san.proofs.Common.{◌<◌, length, ℕ, take, drop, ap, ◌∙◌, arith, is_gap, words}
 use Rattle.pg_fen.proofs.Cutting.{no_part, first_part}
-use Rattle.pg_san.specs.GameText.{is_gap, words}
 use Rattle.pg_san.proofs.words.next_word.Goals as goal
 
 pub returns-then-is_empty : goal.returns-then-is_empty

@@ -1,5 +1,5 @@
 use Rattle.pg_san.proofs.MoveLemmas.{castles_there}
-use Rattle.pg_position.specs.declared.rights.Wing.TheVariants.{KingSide, QueenSide}
+use Rattle.pg_san.proofs.Common.{KingSide, QueenSide}
 use Rattle.pg_san.proofs.writing.form_for.Goals as goal
 
 pub returns-then-castles : goal.returns-then-castles

@@ -1,4 +1,4 @@
-use Rattle.std.proofs.Common.{refl, inr}
+use Rattle.pg_san.proofs.Common.{refl, inr}
 use Rattle.pg_san.proofs.writing.sign_after.Goals as goal
 
 pub returns-in-None : goal.returns-in-None

@@ -1,4 +1,4 @@
-use Rattle.std.proofs.Common.{refl}
+use Rattle.pg_san.proofs.Common.{refl}
 use Rattle.pg_san.proofs.WrittenLemmas.{untold}
 use Rattle.pg_san.proofs.written.nothing_written.Goals as goal
 

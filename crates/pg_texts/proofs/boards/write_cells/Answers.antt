@@ -1,6 +1,4 @@
-use Rattle.std.proofs.Common.{refl, sym, ap, ◌∙◌}
-use Rattle.pg_board.specs.Placement.{get}
-use Rattle.pg_texts.specs.BoardText.{cell_of}
+use Rattle.pg_texts.proofs.Common.{refl, sym, ap, ◌∙◌, get, cell_of}
 use Rattle.pg_texts.proofs.BoardTextLemmas.{no_cells, one_cell_more}
 use Rattle.pg_texts.proofs.boards.write_cells.Goals as goal
 

@@ -1,6 +1,4 @@
-use Rattle.std.proofs.Common.{◌≡◌}
-use Rattle.std.specs.Io.KnownBytes.{Appends}
-use Rattle.pg_texts.specs.BoardText.{squares_text}
+use Rattle.pg_texts.proofs.Common.{◌≡◌, Appends, squares_text}
 use Rattle.pg_texts.proofs.boards.write_cells.Given as goal
 
 -- the squares so far were appended

@@ -1,4 +1,4 @@
-use Rattle.std.proofs.Common.{refl, sym, ◌∙◌}
+use Rattle.pg_texts.proofs.Common.{refl, sym, ◌∙◌}
 use Rattle.pg_texts.proofs.BoardTextLemmas.{no_lines, one_line_more}
 use Rattle.pg_texts.proofs.boards.write_ranks.Goals as goal
 

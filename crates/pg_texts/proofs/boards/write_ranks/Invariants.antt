@@ -1,6 +1,4 @@
-use Rattle.std.proofs.Common.{◌≡◌}
-use Rattle.std.specs.Io.KnownBytes.{Appends}
-use Rattle.pg_texts.specs.BoardText.{upper_lines}
+use Rattle.pg_texts.proofs.Common.{◌≡◌, Appends, upper_lines}
 use Rattle.pg_texts.proofs.boards.write_ranks.Given as goal
 
 -- the ranks so far were appended

@@ -1,12 +1,9 @@
-use Rattle.std.proofs.Common.{◌≡◌, refl, sym, ap, subst}
-use Rattle.std.specs.Prelude.{Result, Ok, Err, IfOk, IfErr}
-use Rattle.pg_position.specs.Position.{IsPosition}
+use Rattle.pg_texts.proofs.Common.{◌≡◌, refl, sym, ap, subst, Result, Ok, Err, IfOk, IfErr, IsPosition, SpellsPosition, IsRefusedAs}
 use Rattle.pg_fen.specs.declared.fault.FenFault.{FenFault}
 use Rattle.pg_fen.specs.declared.games.FenGame.{FenGame}
 use Rattle.pg_fen.specs.declared.games.GameParts.{GameParts}
 use Rattle.pg_fen.specs.Fields.{fields}
 use Rattle.pg_fen.specs.PositionText.{game_parts, state_of, IsGameRead}
-use Rattle.pg_texts.specs.MovesText.{SpellsPosition, IsRefusedAs}
 use Rattle.pg_texts.proofs.moves.game_of.Goals as goal
 
 -- a game that is read is what the text says, and a position

@@ -1,4 +1,4 @@
-use Rattle.std.proofs.Common.{refl, sym, ◌∙◌}
+use Rattle.pg_texts.proofs.Common.{refl, sym, ◌∙◌}
 use Rattle.pg_moves.proofs.CountLemmas.{listed_legal}
 use Rattle.pg_texts.proofs.MoveLineLemmas.{no_lines, one_line_more, all_lines}
 use Rattle.pg_texts.proofs.moves.write_lines.Goals as goal

@@ -1,6 +1,4 @@
-use Rattle.std.proofs.Common.{◌≡◌, take}
-use Rattle.pg_certificate.specs.Pushing.{AddsSome}
-use Rattle.pg_texts.specs.MovesText.{AreMoveLines}
+use Rattle.pg_texts.proofs.Common.{◌≡◌, take, AddsSome, AreMoveLines}
 use Rattle.pg_texts.proofs.moves.write_lines.Given as goal
 
 -- the lines of the moves so far were appended

@@ -1,9 +1,5 @@
-use Rattle.std.proofs.Common.{◌≡◌, ◌<◌, length, sym, ◌∙◌, arith, rules}
+use Rattle.pg_texts.proofs.Common.{◌≡◌, ◌<◌, length, sym, ◌∙◌, arith, rules, codes, Appends, AddsSome, IsMovetext}
 use Rattle.std.proofs.lemmas.Bool.Decides.{nat_tests}
-use Rattle.std.specs.Prelude.{codes}
-use Rattle.std.specs.Io.KnownBytes.{Appends}
-use Rattle.pg_certificate.specs.Pushing.{AddsSome}
-use Rattle.pg_texts.specs.Movetext.{IsMovetext}
 use Rattle.pg_texts.proofs.OutcomeLemmas.{on_ok}
 use Rattle.pg_texts.proofs.PlyLemmas.{game_of_none, game_of_moves}
 use Rattle.pg_texts.proofs.movetext.append_game.Goals as goal

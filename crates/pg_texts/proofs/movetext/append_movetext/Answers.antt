@@ -1,7 +1,4 @@
-use Rattle.std.proofs.Common.{arith, rules}
-use Rattle.std.specs.Prelude.{codes}
-use Rattle.std.specs.Io.KnownBytes.{Appends}
-use Rattle.pg_texts.specs.Movetext.{AddsLongest}
+use Rattle.pg_texts.proofs.Common.{arith, rules, codes, Appends, AddsLongest}
 use Rattle.pg_texts.proofs.OutcomeLemmas.{on_ok}
 use Rattle.pg_texts.proofs.PlyLemmas.{no_moves, some_moves}
 use Rattle.pg_texts.proofs.movetext.append_movetext.Goals as goal

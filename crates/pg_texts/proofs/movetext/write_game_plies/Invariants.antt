@@ -1,7 +1,4 @@
-use Rattle.std.proofs.Common.{◌≡◌, ◌<◌, false}
-use Rattle.std.specs.Prelude.{All}
-use Rattle.pg_san.specs.KnownTexts.{IsWritten}
-use Rattle.pg_texts.specs.inner.Plies.{AddsPlies}
+use Rattle.pg_texts.proofs.Common.{◌≡◌, ◌<◌, false, All, IsWritten, AddsPlies}
 use Rattle.pg_texts.proofs.movetext.write_game_plies.Given as goal
 
 -- the moves so far lead to the position, and their text was appended

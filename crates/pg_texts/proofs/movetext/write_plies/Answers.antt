@@ -1,6 +1,4 @@
-use Rattle.std.proofs.Common.{refl, sym, ◌∙◌, subst, arith}
-use Rattle.pg_position.specs.declared.state.State.{State}
-use Rattle.pg_texts.specs.inner.Plies.{AddsPlies}
+use Rattle.pg_texts.proofs.Common.{refl, sym, ◌∙◌, subst, arith, State, AddsPlies}
 use Rattle.pg_texts.proofs.PlyLemmas.{no_plies, one_ply_more, played_to_the_end, played_until}
 use Rattle.pg_texts.proofs.movetext.write_plies.Goals as goal
 

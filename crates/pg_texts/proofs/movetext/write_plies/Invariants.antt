@@ -1,5 +1,4 @@
-use Rattle.std.proofs.Common.{◌≡◌, ◌<◌, false}
-use Rattle.pg_texts.specs.inner.Plies.{AddsPlies}
+use Rattle.pg_texts.proofs.Common.{◌≡◌, ◌<◌, false, AddsPlies}
 use Rattle.pg_texts.proofs.movetext.write_plies.Given as goal
 
 -- the moves so far lead to the position, and their text was appended

@@ -1,6 +1,4 @@
-use Rattle.std.proofs.Common.{List, ℕ, subst, rules}
-use Rattle.std.specs.Io.KnownBytes.{Appends}
-use Rattle.pg_texts.specs.Report.{line_text}
+use Rattle.pg_texts.proofs.Common.{List, ℕ, subst, rules, Appends, line_text}
 use Rattle.pg_texts.proofs.ReportLemmas.{report_grows}
 use Rattle.pg_texts.proofs.report.append_report.Goals as goal
 

@@ -1,4 +1,4 @@
-use Rattle.std.proofs.Common.{◌<◌, length, refl, sym, ◌∙◌, arith}
+use Rattle.pg_texts.proofs.Common.{◌<◌, length, refl, sym, ◌∙◌, arith}
 use Rattle.pg_texts.proofs.ReportLemmas.{no_lines, one_line_more, all_lines, listed_game}
 use Rattle.pg_texts.proofs.report.write_all.Goals as goal
 

@@ -1,8 +1,4 @@
-use Rattle.std.proofs.Common.{◌≡◌, take}
-use Rattle.std.specs.Prelude.{All}
-use Rattle.pg_san.specs.KnownTexts.{IsWritten}
-use Rattle.pg_certificate.specs.Pushing.{AddsSome}
-use Rattle.pg_texts.specs.Report.{AreGameLines}
+use Rattle.pg_texts.proofs.Common.{◌≡◌, take, All, IsWritten, AddsSome, AreGameLines}
 use Rattle.pg_texts.proofs.report.write_all.Given as goal
 
 -- the lines of the games so far were appended

@@ -1,7 +1,4 @@
-use Rattle.std.proofs.Common.{◌∙◌, rules}
-use Rattle.std.specs.Prelude.{codes}
-use Rattle.std.specs.Io.KnownBytes.{Appends}
-use Rattle.pg_texts.specs.Report.{labelled_text, head_text}
+use Rattle.pg_texts.proofs.Common.{◌∙◌, rules, codes, Appends, labelled_text, head_text}
 use Rattle.pg_texts.proofs.OutcomeLemmas.{on_ok}
 use Rattle.pg_texts.proofs.ReportLemmas.{head_grows}
 use Rattle.pg_texts.proofs.report.write_head.Goals as goal

@@ -1,8 +1,5 @@
-use Rattle.std.proofs.Common.{[], ◌∷◌, rules}
-use Rattle.std.specs.Io.KnownBytes.{Appends}
+use Rattle.pg_texts.proofs.Common.{[], ◌∷◌, rules, Appends, IsMovetext, AddsLine}
 use Rattle.pg_texts.proofs.OutcomeLemmas.{on_ok}
-use Rattle.pg_texts.specs.Movetext.{IsMovetext}
-use Rattle.pg_texts.specs.Report.{AddsLine}
 use Rattle.pg_texts.proofs.ReportLemmas.{game_line}
 use Rattle.pg_texts.proofs.report.write_listed.Goals as goal
 

@@ -1,9 +1,4 @@
-use Rattle.std.proofs.Common.{◌+◌, ◌*◌, ◌<◌, ℕ, subst, arith}
-use Rattle.std.proofs.KnownBytes.{Consumes-kept}
-use Rattle.std.specs.List.{flat_map}
-use Rattle.pg_certificate.specs.Reader.{to_come, Leaves}
-use Rattle.pg_certificate.specs.Reading.{more_at}
-use Rattle.pg_certificate.specs.Spelling.{spelling, longest_record}
+use Rattle.pg_texts.proofs.Common.{◌+◌, ◌*◌, ◌<◌, ℕ, subst, arith, Consumes-kept, flat_map, to_come, Leaves, more_at, spelling, longest_record}
 use Rattle.pg_texts.proofs.UpgradeLemmas.{ended, too_many, stopped, one_copied, gone_with, gone_copied, few_copied}
 use Rattle.pg_texts.proofs.upgrading.copy_records.Goals as goal
 

@@ -1,7 +1,4 @@
-use Rattle.std.proofs.Common.{◌-◌, ◌≤◌, length}
-use Rattle.pg_certificate.specs.Reader.{to_come}
-use Rattle.pg_certificate.specs.Writer.{written}
-use Rattle.pg_texts.specs.inner.Copying.{Copies, IsCopying}
+use Rattle.pg_texts.proofs.Common.{◌-◌, ◌≤◌, length, to_come, written, Copies, IsCopying}
 use Rattle.pg_texts.proofs.upgrading.copy_records.Given as goal
 
 -- the records so far were copied, and neither side has refused

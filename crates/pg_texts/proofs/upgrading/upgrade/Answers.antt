@@ -1,9 +1,4 @@
-use Rattle.std.proofs.Common.{ℕ, ◌+◌, ◌*◌, List, subst, arith}
-use Rattle.std.specs.Prelude.{Option}
-use Rattle.std.specs.Io.KnownBytes.{Consumes, Appends}
-use Rattle.pg_certificate.specs.Reader.{to_come}
-use Rattle.pg_certificate.specs.Spelling.{header_spelling, longest_record}
-use Rattle.pg_certificate.specs.Writer.{written}
+use Rattle.pg_texts.proofs.Common.{ℕ, ◌+◌, ◌*◌, List, subst, arith, Option, Consumes, Appends, to_come, header_spelling, longest_record, written}
 use Rattle.pg_texts.proofs.UpgradeLemmas.{nothing_before, nothing_behind, none_left, second, upgraded, gone_more, gone_with}
 use Rattle.pg_texts.proofs.upgrading.upgrade.Goals as goal
 

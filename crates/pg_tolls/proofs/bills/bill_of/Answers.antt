@@ -1,5 +1,4 @@
-use Rattle.std.proofs.Common.{◌+◌, None, length, refl, ap, arith, ◌∙◌}
-use Rattle.std.proofs.Math.ListN.{length-set}
+use Rattle.pg_tolls.proofs.Common.{◌+◌, None, length, refl, ap, arith, ◌∙◌, length-set}
 use Rattle.pg_tolls.proofs.Billing.{lines_next}
 use Rattle.pg_tolls.proofs.bills.bill_of.Goals as goal
 

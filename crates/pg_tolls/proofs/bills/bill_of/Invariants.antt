@@ -1,6 +1,4 @@
-use Rattle.std.proofs.Common.{◌≡◌, ◌<◌, ℕ, None, length}
-use Rattle.pg_position.specs.declared.state.State.{State}
-use Rattle.pg_tolls.specs.inner.Bills.{IsPartyOf, HasLine}
+use Rattle.pg_tolls.proofs.Common.{◌≡◌, ◌<◌, ℕ, None, length, State, IsPartyOf, HasLine}
 use Rattle.pg_tolls.proofs.bills.bill_of.Given as goal
 
 abbrev pub invariant-loop-i : goal.invariant-loop-i

@@ -1,8 +1,4 @@
-use Rattle.std.proofs.Common.{◌≡◌, ◌+◌, ℕ, nat_eq, get_or, sym, ap, subst, arith, ◌∙◌}
-use Rattle.std.proofs.lemmas.List.{get_or_default}
-use Rattle.pg_position.specs.Squares.{king_home, rook_home}
-use Rattle.pg_journeys.specs.inner.Sides.{square_at}
-use Rattle.pg_tolls.specs.declared.bills.Castled.{Castled}
+use Rattle.pg_tolls.proofs.Common.{◌≡◌, ◌+◌, ℕ, nat_eq, get_or, sym, ap, subst, arith, ◌∙◌, get_or_default, king_home, rook_home, square_at, Castled}
 use Rattle.pg_tolls.proofs.Castlings.{IsMade, made_still, made_moved}
 use Rattle.pg_tolls.proofs.bills.castled_of.Goals.{then-eq, else-eq+else-eq-2}
 use Rattle.pg_tolls.proofs.bills.castled_of.Goals as goal

@@ -1,5 +1,4 @@
-use Rattle.std.proofs.Common.{◌≡◌, get_or}
-use Rattle.pg_tolls.specs.inner.Values.{least_of}
+use Rattle.pg_tolls.proofs.Common.{◌≡◌, get_or, least_of}
 use Rattle.pg_tolls.proofs.bills.least.Given as goal
 
 abbrev pub invariant-loop-e : goal.invariant-loop-e

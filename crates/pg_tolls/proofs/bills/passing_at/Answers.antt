@@ -1,5 +1,4 @@
-use Rattle.std.proofs.Common.{◌∙◌, sym, rules}
-use Rattle.pg_tolls.proofs.Openings.{passed_ahead}
+use Rattle.pg_tolls.proofs.Common.{◌∙◌, sym, rules, passed_ahead}
 use Rattle.pg_tolls.proofs.bills.passing_at.Goals as goal
 
 pub ahead-requires : goal.ahead-requires

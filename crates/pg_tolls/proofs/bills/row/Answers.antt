@@ -1,8 +1,4 @@
-use Rattle.std.proofs.Common.{ap, arith, ◌∙◌}
-use Rattle.std.proofs.lemmas.List.{get_or_default}
-use Rattle.pg_journeys.specs.inner.Sides.{kind_at}
-use Rattle.pg_travel.specs.Origins.{counted}
-use Rattle.pg_tolls.specs.inner.Tables.{entry}
+use Rattle.pg_tolls.proofs.Common.{ap, arith, ◌∙◌, get_or_default, kind_at, counted, entry}
 use Rattle.pg_tolls.proofs.HalfRows.{row_is, row_past}
 use Rattle.pg_tolls.proofs.bills.row.Goals as goal
 

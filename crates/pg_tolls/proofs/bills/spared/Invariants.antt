@@ -1,5 +1,4 @@
-use Rattle.std.proofs.Common.{ℕ, ◌<◌, get_or}
-use Rattle.pg_tolls.specs.inner.Bills.{IsSparedAt}
+use Rattle.pg_tolls.proofs.Common.{ℕ, ◌<◌, get_or, IsSparedAt}
 use Rattle.pg_tolls.proofs.bills.spared.Given as goal
 
 abbrev pub invariant-loop-e : goal.invariant-loop-e

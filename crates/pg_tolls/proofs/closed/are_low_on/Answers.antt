@@ -1,4 +1,4 @@
-use Rattle.pg_travel.proofs.TakenSets.{fewer}
+use Rattle.pg_tolls.proofs.Common.{fewer}
 use Rattle.pg_tolls.proofs.closed.are_low_on.Goals as goal
 
 pub loop-square-smaller : goal.loop-square-smaller

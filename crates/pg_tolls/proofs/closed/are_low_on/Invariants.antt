@@ -1,8 +1,4 @@
-use Rattle.std.proofs.Common.{◌≡◌, ◌<◌, ℕ, false, [], get_or}
-use Rattle.pg_board.specs.Bits.{has}
-use Rattle.pg_board.specs.Squares.{rank}
-use Rattle.pg_board.specs.Tally.{count_below}
-use Rattle.pg_tolls.specs.inner.Closing.{AreAtMost}
+use Rattle.pg_tolls.proofs.Common.{◌≡◌, ◌<◌, ℕ, false, [], get_or, has, rank, count_below, AreAtMost}
 use Rattle.pg_tolls.proofs.closed.are_low_on.Given as goal
 
 abbrev pub invariant-loop-square : goal.invariant-loop-square

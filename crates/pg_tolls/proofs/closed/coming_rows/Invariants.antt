@@ -1,5 +1,4 @@
-use Rattle.std.proofs.Common.{◌≡◌, length}
-use Rattle.pg_tolls.specs.inner.Closing.{AreComing}
+use Rattle.pg_tolls.proofs.Common.{◌≡◌, length, AreComing}
 use Rattle.pg_tolls.proofs.closed.coming_rows.Given as goal
 
 abbrev pub invariant-loop-at : goal.invariant-loop-at

@@ -1,11 +1,4 @@
-use Rattle.std.proofs.Common.{◌≡◌, ◌<◌, ◌≤◌, ◌+◌, ◌*◌, ℕ, true, false}
-use Rattle.pg_board.specs.Bits.{has}
-use Rattle.pg_board.specs.Men.{other}
-use Rattle.pg_board.specs.Tally.{count_below}
-use Rattle.pg_journeys.specs.Known.{known}
-use Rattle.pg_tolls.specs.Stated.{stated}
-use Rattle.pg_tolls.specs.inner.Tables.{raised}
-use Rattle.pg_tolls.specs.inner.Closing.{cell}
+use Rattle.pg_tolls.proofs.Common.{◌≡◌, ◌<◌, ◌≤◌, ◌+◌, ◌*◌, ℕ, true, false, has, other, count_below, known, stated, raised, cell}
 use Rattle.pg_tolls.proofs.closed.falls_fit.Given as goal
 
 abbrev pub invariant-loop-square : goal.invariant-loop-square

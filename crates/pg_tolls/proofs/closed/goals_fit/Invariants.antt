@@ -1,4 +1,4 @@
-use Rattle.pg_tolls.specs.inner.Closing.{AreGoals}
+use Rattle.pg_tolls.proofs.Common.{AreGoals}
 use Rattle.pg_tolls.proofs.closed.goals_fit.Given as goal
 
 abbrev pub invariant-loop-e : goal.invariant-loop-e

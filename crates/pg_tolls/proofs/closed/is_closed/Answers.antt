@@ -1,6 +1,4 @@
-use Rattle.std.proofs.Common.{◌+◌, refl, arith}
-use Rattle.pg_journeys.specs.Known.{known}
-use Rattle.pg_tolls.specs.Stated.{stated}
+use Rattle.pg_tolls.proofs.Common.{◌+◌, refl, arith, known, stated}
 use Rattle.pg_tolls.proofs.ClosingLemmas.{layers_next}
 use Rattle.pg_tolls.proofs.closed.is_closed.Goals as goal
 

@@ -1,7 +1,4 @@
-use Rattle.std.proofs.Common.{◌<◌, ℕ}
-use Rattle.pg_journeys.specs.Known.{known}
-use Rattle.pg_tolls.specs.Stated.{stated}
-use Rattle.pg_tolls.specs.inner.Closing.{IsLayer}
+use Rattle.pg_tolls.proofs.Common.{◌<◌, ℕ, known, stated, IsLayer}
 use Rattle.pg_tolls.proofs.closed.is_closed.Given as goal
 
 abbrev pub invariant-loop-marks : goal.invariant-loop-marks

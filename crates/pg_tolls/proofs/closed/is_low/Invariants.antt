@@ -1,5 +1,4 @@
-use Rattle.std.proofs.Common.{◌≡◌, true}
-use Rattle.pg_tolls.specs.inner.Closing.{AreAtMost}
+use Rattle.pg_tolls.proofs.Common.{◌≡◌, true, AreAtMost}
 use Rattle.pg_tolls.proofs.closed.is_low.Given as goal
 
 abbrev pub invariant-loop-e : goal.invariant-loop-e

@@ -1,5 +1,4 @@
-use Rattle.std.proofs.Common.{◌+◌, refl}
-use Rattle.pg_journeys.specs.Known.{known}
+use Rattle.pg_tolls.proofs.Common.{◌+◌, refl, known}
 use Rattle.pg_tolls.proofs.ClosingLemmas.{pawn_next}
 use Rattle.pg_tolls.proofs.closed.pawn_fits.Goals as goal
 

@@ -1,5 +1,4 @@
-use Rattle.pg_journeys.specs.Known.{known}
-use Rattle.pg_tolls.specs.inner.Closing.{ArePawnSteps}
+use Rattle.pg_tolls.proofs.Common.{known, ArePawnSteps}
 use Rattle.pg_tolls.proofs.closed.pawn_fits.Given as goal
 
 abbrev pub invariant-loop-at : goal.invariant-loop-at

@@ -1,5 +1,4 @@
-use Rattle.pg_journeys.specs.Known.{known}
-use Rattle.pg_tolls.specs.inner.Closing.{ArePieceSteps}
+use Rattle.pg_tolls.proofs.Common.{known, ArePieceSteps}
 use Rattle.pg_tolls.proofs.closed.piece_fits.Given as goal
 
 abbrev pub invariant-loop-at : goal.invariant-loop-at

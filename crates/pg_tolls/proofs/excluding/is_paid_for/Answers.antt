@@ -1,4 +1,4 @@
-use Rattle.std.proofs.Common.{Some, sym, ap, ◌∙◌}
+use Rattle.pg_tolls.proofs.Common.{Some, sym, ap, ◌∙◌}
 use Rattle.pg_tolls.proofs.Paying.{first_unpaid, second_unpaid, both_paid}
 use Rattle.pg_tolls.proofs.excluding.is_paid_for.Goals as goal
 

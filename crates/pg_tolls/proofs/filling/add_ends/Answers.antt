@@ -1,9 +1,4 @@
-use Rattle.std.proofs.Common.{◌≡◌, ℕ, List, sym, subst, arith, ◌∙◌}
-use Rattle.std.proofs.lemmas.List.{get_or_default}
-use Rattle.pg_journeys.specs.Known.{known}
-use Rattle.pg_journeys.specs.inner.Sides.{square_at}
-use Rattle.pg_tolls.specs.Stated.{stated}
-use Rattle.pg_tolls.specs.inner.Highest.{KeepsEnds}
+use Rattle.pg_tolls.proofs.Common.{◌≡◌, ℕ, List, sym, subst, arith, ◌∙◌, get_or_default, known, square_at, stated, KeepsEnds}
 use Rattle.pg_tolls.proofs.FillingLemmas.{ends_next, no_king}
 use Rattle.pg_tolls.proofs.filling.add_ends.Goals as goal
 use Rattle.pg_tolls.proofs.filling.add_ends.Goals.{then-same_kind, else-same_kind}

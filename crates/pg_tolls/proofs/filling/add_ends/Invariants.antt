@@ -1,6 +1,4 @@
-use Rattle.pg_journeys.specs.Known.{known}
-use Rattle.pg_tolls.specs.Stated.{stated}
-use Rattle.pg_tolls.specs.inner.Highest.{KeepsEnds}
+use Rattle.pg_tolls.proofs.Common.{known, stated, KeepsEnds}
 use Rattle.pg_tolls.proofs.filling.add_ends.Given as goal
 
 abbrev pub invariant-loop-e : goal.invariant-loop-e

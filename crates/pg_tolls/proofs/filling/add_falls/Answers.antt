@@ -1,10 +1,4 @@
-use Rattle.std.proofs.Common.{◌≡◌, ◌+◌, ◌<◌, ◌≤◌, ℕ, true, ap, arith, ◌∙◌}
-use Rattle.pg_board.specs.declared.man.Color.{Color}
-use Rattle.pg_board.specs.Men.{other}
-use Rattle.pg_travel.proofs.TakenSets.{fewer}
-use Rattle.pg_journeys.specs.Known.{known}
-use Rattle.pg_tolls.specs.Stated.{stated}
-use Rattle.pg_tolls.specs.inner.Tables.{raised}
+use Rattle.pg_tolls.proofs.Common.{◌≡◌, ◌+◌, ◌<◌, ◌≤◌, ℕ, true, ap, arith, ◌∙◌, Color, other, fewer, known, stated, raised}
 use Rattle.pg_tolls.proofs.FillingLemmas.{lowering_next, write_below}
 use Rattle.pg_tolls.proofs.filling.add_falls.Goals as goal
 

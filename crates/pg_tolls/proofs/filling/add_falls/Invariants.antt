@@ -1,10 +1,4 @@
-use Rattle.std.proofs.Common.{◌≡◌, ◌<◌, ◌≤◌, ◌+◌, ℕ, true}
-use Rattle.pg_board.specs.Bits.{has}
-use Rattle.pg_board.specs.Men.{other}
-use Rattle.pg_board.specs.Tally.{count_below}
-use Rattle.pg_journeys.specs.Known.{known}
-use Rattle.pg_tolls.specs.Stated.{stated}
-use Rattle.pg_tolls.specs.inner.Tables.{raised}
+use Rattle.pg_tolls.proofs.Common.{◌≡◌, ◌<◌, ◌≤◌, ◌+◌, ℕ, true, has, other, count_below, known, stated, raised}
 use Rattle.pg_tolls.proofs.FillingLemmas.{IsLowering}
 use Rattle.pg_tolls.proofs.filling.add_falls.Given as goal
 

@@ -1,5 +1,4 @@
-use Rattle.std.proofs.Common.{◌∙◌}
-use Rattle.pg_journeys.specs.Known.{known}
+use Rattle.pg_tolls.proofs.Common.{◌∙◌, known}
 use Rattle.pg_tolls.proofs.FillingLemmas.{advance_next}
 use Rattle.pg_tolls.proofs.filling.advance.Goals as goal
 

@@ -1,5 +1,4 @@
-use Rattle.pg_journeys.specs.Known.{known}
-use Rattle.pg_tolls.specs.inner.Highest.{KeepsPawns}
+use Rattle.pg_tolls.proofs.Common.{known, KeepsPawns}
 use Rattle.pg_tolls.proofs.filling.advance.Given as goal
 
 abbrev pub invariant-loop-at : goal.invariant-loop-at

@@ -1,6 +1,4 @@
-use Rattle.std.proofs.Common.{◌+◌, replicate, refl, arith}
-use Rattle.pg_journeys.specs.Known.{known}
-use Rattle.pg_tolls.specs.Stated.{stated}
+use Rattle.pg_tolls.proofs.Common.{◌+◌, replicate, refl, arith, known, stated}
 use Rattle.pg_tolls.proofs.FillingLemmas.{no_numbers, filled_first, filled_next}
 use Rattle.pg_tolls.proofs.filling.fill.Goals as goal
 

@@ -1,5 +1,4 @@
-use Rattle.pg_journeys.specs.Known.{known}
-use Rattle.pg_tolls.specs.Stated.{stated}
+use Rattle.pg_tolls.proofs.Common.{known, stated}
 use Rattle.pg_tolls.proofs.FillingLemmas.{IsFilled}
 use Rattle.pg_tolls.proofs.filling.fill.Given as goal
 

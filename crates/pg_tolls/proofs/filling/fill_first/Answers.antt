@@ -1,9 +1,5 @@
-use Rattle.std.proofs.Common.{replicate, refl, arith}
-use Rattle.pg_journeys.specs.Known.{known}
-use Rattle.pg_tolls.specs.Stated.{stated}
-use Rattle.pg_tolls.specs.inner.Highest.{AreClosedAt}
+use Rattle.pg_tolls.proofs.Common.{replicate, refl, arith, known, stated, AreClosedAt, Pawn}
 use Rattle.pg_tolls.proofs.FillingLemmas.{ends_below, nothing_taken, no_numbers}
-use Rattle.pg_board.specs.declared.man.Kind.TheVariants.{Pawn}
 use Rattle.pg_tolls.proofs.filling.fill_first.Goals as goal
 
 pub returns : goal.returns

@@ -1,8 +1,4 @@
-use Rattle.std.proofs.Common.{suc, arith}
-use Rattle.pg_board.specs.declared.man.Kind.TheVariants.{Pawn}
-use Rattle.pg_journeys.specs.Known.{known}
-use Rattle.pg_tolls.specs.Stated.{stated}
-use Rattle.pg_tolls.specs.inner.Highest.{AreClosedAt, AreClosedTo}
+use Rattle.pg_tolls.proofs.Common.{suc, arith, Pawn, known, stated, AreClosedAt, AreClosedTo}
 use Rattle.pg_tolls.proofs.FillingLemmas.{taken_numbers, taken_within, taken_below, over_high, fewer_marks}
 use Rattle.pg_tolls.proofs.filling.fill_next.Goals as goal
 

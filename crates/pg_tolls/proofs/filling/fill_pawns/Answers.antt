@@ -1,7 +1,4 @@
-use Rattle.std.proofs.Common.{ℕ, subst}
-use Rattle.pg_journeys.specs.Known.{known}
-use Rattle.pg_tolls.specs.Stated.{stated}
-use Rattle.pg_tolls.specs.inner.Highest.{KeepsPawns}
+use Rattle.pg_tolls.proofs.Common.{ℕ, subst, known, stated, KeepsPawns}
 use Rattle.pg_tolls.proofs.FillingLemmas.{pawns_over}
 use Rattle.pg_tolls.proofs.filling.fill_pawns.Goals as goal
 

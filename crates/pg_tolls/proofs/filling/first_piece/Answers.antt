@@ -1,7 +1,4 @@
-use Rattle.std.proofs.Common.{ℕ, subst, arith}
-use Rattle.pg_journeys.specs.Known.{known}
-use Rattle.pg_tolls.specs.Stated.{stated}
-use Rattle.pg_tolls.specs.inner.Highest.{AreClosedAt, KeepsSteps}
+use Rattle.pg_tolls.proofs.Common.{ℕ, subst, arith, known, stated, AreClosedAt, KeepsSteps}
 use Rattle.pg_tolls.proofs.FillingLemmas.{ends_below}
 use Rattle.pg_tolls.proofs.filling.first_piece.Goals as goal
 

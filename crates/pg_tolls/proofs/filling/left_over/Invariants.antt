@@ -1,5 +1,4 @@
-use Rattle.std.proofs.Common.{◌≡◌, length}
-use Rattle.pg_tolls.specs.inner.Highest.{AreLeftOver}
+use Rattle.pg_tolls.proofs.Common.{◌≡◌, length, AreLeftOver}
 use Rattle.pg_tolls.proofs.filling.left_over.Given as goal
 
 abbrev pub invariant-loop-at : goal.invariant-loop-at

@@ -1,7 +1,4 @@
-use Rattle.std.proofs.Common.{ℕ, subst}
-use Rattle.pg_journeys.specs.Known.{known}
-use Rattle.pg_tolls.specs.Stated.{stated}
-use Rattle.pg_tolls.specs.inner.Highest.{KeepsSteps}
+use Rattle.pg_tolls.proofs.Common.{ℕ, subst, known, stated, KeepsSteps}
 use Rattle.pg_tolls.proofs.FillingLemmas.{piece_high}
 use Rattle.pg_tolls.proofs.filling.next_piece.Goals as goal
 

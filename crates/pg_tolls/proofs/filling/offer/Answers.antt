@@ -1,7 +1,4 @@
-use Rattle.std.proofs.Common.{◌≡◌, true, ◌∙◌}
-use Rattle.pg_board.specs.Bits.{has}
-use Rattle.pg_travel.proofs.TakenSets.{fewer}
-use Rattle.pg_tolls.specs.inner.Highest.{IsOffer}
+use Rattle.pg_tolls.proofs.Common.{◌≡◌, true, ◌∙◌, has, fewer, IsOffer}
 use Rattle.pg_tolls.proofs.FillingLemmas.{lowering_next, lower_put}
 use Rattle.pg_tolls.proofs.filling.offer.Goals as goal
 

@@ -1,7 +1,4 @@
-use Rattle.std.proofs.Common.{◌≡◌, true}
-use Rattle.pg_board.specs.Bits.{has}
-use Rattle.pg_board.specs.Tally.{count_below}
-use Rattle.pg_tolls.specs.inner.Highest.{IsOffer}
+use Rattle.pg_tolls.proofs.Common.{◌≡◌, true, has, count_below, IsOffer}
 use Rattle.pg_tolls.proofs.FillingLemmas.{IsLowering}
 use Rattle.pg_tolls.proofs.filling.offer.Given as goal
 

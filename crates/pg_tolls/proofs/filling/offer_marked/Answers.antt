@@ -1,7 +1,4 @@
-use Rattle.std.proofs.Common.{◌+◌, ℕ, ap₂, ◌∙◌}
-use Rattle.pg_travel.proofs.TakenSets.{fewer}
-use Rattle.pg_journeys.specs.Known.{known}
-use Rattle.pg_tolls.specs.Stated.{stated}
+use Rattle.pg_tolls.proofs.Common.{◌+◌, ℕ, ap₂, ◌∙◌, fewer, known, stated}
 use Rattle.pg_tolls.proofs.FillingLemmas.{takes_next}
 use Rattle.pg_tolls.proofs.filling.offer_marked.Goals as goal
 

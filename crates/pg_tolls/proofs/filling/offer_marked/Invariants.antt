@@ -1,8 +1,4 @@
-use Rattle.pg_board.specs.Bits.{has}
-use Rattle.pg_board.specs.Tally.{count_below}
-use Rattle.pg_journeys.specs.Known.{known}
-use Rattle.pg_tolls.specs.Stated.{stated}
-use Rattle.pg_tolls.specs.inner.Highest.{KeepsTakes}
+use Rattle.pg_tolls.proofs.Common.{has, count_below, known, stated, KeepsTakes}
 use Rattle.pg_tolls.proofs.filling.offer_marked.Given as goal
 
 abbrev pub invariant-loop-square : goal.invariant-loop-square

@@ -1,9 +1,4 @@
-use Rattle.std.proofs.Common.{◌≡◌, ◌<◌, ◌≤◌, ℕ, [], get_or, sym, subst, arith, ◌∙◌}
-use Rattle.pg_board.specs.Squares.{rank}
-use Rattle.pg_position.specs.Squares.{last_rank}
-use Rattle.pg_travel.proofs.TakenSets.{fewer}
-use Rattle.pg_tolls.specs.inner.Closing.{cell}
-use Rattle.pg_tolls.specs.inner.Highest.{AreBelow}
+use Rattle.pg_tolls.proofs.Common.{◌≡◌, ◌<◌, ◌≤◌, ℕ, [], get_or, sym, subst, arith, ◌∙◌, rank, last_rank, fewer, cell, AreBelow}
 use Rattle.pg_tolls.proofs.FillingLemmas.{lowering_next, lower_put}
 use Rattle.pg_tolls.proofs.filling.promote.Goals as goal
 

@@ -1,9 +1,4 @@
-use Rattle.std.proofs.Common.{◌≡◌, ◌<◌, ◌≤◌, ℕ}
-use Rattle.pg_board.specs.Bits.{has}
-use Rattle.pg_board.specs.Squares.{rank}
-use Rattle.pg_board.specs.Tally.{count_below}
-use Rattle.pg_position.specs.Squares.{last_rank}
-use Rattle.pg_tolls.specs.inner.Highest.{AreBelow}
+use Rattle.pg_tolls.proofs.Common.{◌≡◌, ◌<◌, ◌≤◌, ℕ, has, rank, count_below, last_rank, AreBelow}
 use Rattle.pg_tolls.proofs.FillingLemmas.{IsLowering}
 use Rattle.pg_tolls.proofs.filling.promote.Given as goal
 

@@ -1,5 +1,4 @@
-use Rattle.pg_journeys.specs.Known.{known}
-use Rattle.pg_tolls.specs.inner.Highest.{KeepsSteps}
+use Rattle.pg_tolls.proofs.Common.{known, KeepsSteps}
 use Rattle.pg_tolls.proofs.filling.spread.Given as goal
 
 abbrev pub invariant-loop : goal.invariant-loop

@@ -1,6 +1,4 @@
-use Rattle.std.proofs.Common.{◌∙◌}
-use Rattle.pg_travel.proofs.TakenSets.{fewer}
-use Rattle.pg_journeys.specs.Known.{known}
+use Rattle.pg_tolls.proofs.Common.{◌∙◌, fewer, known}
 use Rattle.pg_tolls.proofs.FillingLemmas.{spread_next}
 use Rattle.pg_tolls.proofs.filling.spread_once.Goals as goal
 

@@ -1,7 +1,4 @@
-use Rattle.pg_board.specs.Bits.{has}
-use Rattle.pg_board.specs.Tally.{count_below}
-use Rattle.pg_journeys.specs.Known.{known}
-use Rattle.pg_tolls.specs.inner.Highest.{KeepsSteps}
+use Rattle.pg_tolls.proofs.Common.{has, count_below, known, KeepsSteps}
 use Rattle.pg_tolls.proofs.filling.spread_once.Given as goal
 
 abbrev pub invariant-loop-square : goal.invariant-loop-square

@@ -1,4 +1,4 @@
-use Rattle.pg_tolls.specs.lemmas.TariffLemmas.{accounts_law}
+use Rattle.pg_tolls.proofs.Common.{accounts_law}
 use Rattle.pg_tolls.proofs.laws.accounts_law.Goals as goal
 
 pub returns : goal.returns

@@ -1,4 +1,4 @@
-use Rattle.pg_tolls.specs.lemmas.TariffLemmas.{tolls_barren}
+use Rattle.pg_tolls.proofs.Common.{tolls_barren}
 use Rattle.pg_tolls.proofs.laws.tolls_bound_law.Goals as goal
 
 pub returns : goal.returns

@@ -1,6 +1,5 @@
-use Rattle.std.proofs.Common.{ℕ, ◌≤◌, arith}
+use Rattle.pg_tolls.proofs.Common.{ℕ, ◌≤◌, arith, IsCost}
 use Rattle.std.proofs.lemmas.Int.{ints}
-use Rattle.pg_tolls.specs.inner.Values.{IsCost}
 use Rattle.pg_tolls.proofs.Cheapness.{none_is, some_is}
 use Rattle.pg_tolls.proofs.leasts.cheapest.Goals as goal
 

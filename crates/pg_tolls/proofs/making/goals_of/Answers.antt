@@ -1,4 +1,4 @@
-use Rattle.std.proofs.Common.{refl, arith}
+use Rattle.pg_tolls.proofs.Common.{refl, arith}
 use Rattle.pg_tolls.proofs.Unlifted.{few_left, all_listed}
 use Rattle.pg_tolls.proofs.making.goals_of.Goals as goal
 

@@ -1,5 +1,4 @@
-use Rattle.std.proofs.lemmas.Bool.Decides.{Decides-eqb}
-use Rattle.std.proofs.lemmas.Slice.Eq.{slice_eq-Decides}
+use Rattle.pg_tolls.proofs.Common.{Decides-eqb, slice_eq-Decides}
 use Rattle.pg_tolls.proofs.memory.same_goals.Goals as goal
 
 pub returns-then-one-another : goal.returns-then-one-another

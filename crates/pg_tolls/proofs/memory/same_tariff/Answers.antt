@@ -1,4 +1,4 @@
-use Rattle.std.proofs.Common.{sym, ◌∙◌}
+use Rattle.pg_tolls.proofs.Common.{sym, ◌∙◌}
 use Rattle.pg_tolls.proofs.MemoryLemmas.{same_bytes}
 use Rattle.pg_tolls.proofs.memory.same_tariff.Goals as goal
 

@@ -1,5 +1,4 @@
-use Rattle.std.proofs.Common.{ℕ, subst}
-use Rattle.pg_tolls.specs.inner.Remembering.{IsCase}
+use Rattle.pg_tolls.proofs.Common.{ℕ, subst, IsCase}
 use Rattle.pg_tolls.proofs.TightHalves.{told_of, told_by}
 use Rattle.pg_tolls.proofs.memory.value_in.Goals as goal
 

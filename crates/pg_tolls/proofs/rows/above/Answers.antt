@@ -1,6 +1,4 @@
-use Rattle.std.proofs.Common.{◌≡◌, max, ap, arith, ◌∙◌}
-use Rattle.std.proofs.lemmas.Simd.{get_or-replicate}
-use Rattle.pg_tolls.specs.inner.Closing.{nth}
+use Rattle.pg_tolls.proofs.Common.{◌≡◌, max, ap, arith, ◌∙◌, get_or-replicate, nth}
 use Rattle.pg_tolls.proofs.LaneLemmas.{lowered_lanes}
 use Rattle.pg_tolls.proofs.rows.above.Goals as goal
 

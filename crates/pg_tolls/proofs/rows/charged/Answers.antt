@@ -1,6 +1,4 @@
-use Rattle.std.proofs.Common.{◌≡◌, ◌-◌, min, ap, arith, ◌∙◌}
-use Rattle.std.proofs.lemmas.Simd.{get_or-replicate}
-use Rattle.pg_tolls.specs.inner.Closing.{nth}
+use Rattle.pg_tolls.proofs.Common.{◌≡◌, ◌-◌, min, ap, arith, ◌∙◌, get_or-replicate, nth}
 use Rattle.pg_tolls.proofs.LaneLemmas.{summed_lanes}
 use Rattle.pg_tolls.proofs.rows.charged.Goals as goal
 

@@ -1,4 +1,4 @@
-use Rattle.std.proofs.Common.{arith}
+use Rattle.pg_tolls.proofs.Common.{arith}
 use Rattle.pg_tolls.proofs.LaneLemmas.{greatest_lanes}
 use Rattle.pg_tolls.proofs.rows.greater.Goals as goal
 

@@ -1,5 +1,4 @@
-use Rattle.std.proofs.Common.{◌∙◌}
-use Rattle.pg_travel.proofs.TakenSets.{fewer}
+use Rattle.pg_tolls.proofs.Common.{◌∙◌, fewer}
 use Rattle.pg_tolls.proofs.RowLemmas.{least_next}
 use Rattle.pg_tolls.proofs.rows.least_of.Goals as goal
 

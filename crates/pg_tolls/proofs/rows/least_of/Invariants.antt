@@ -1,5 +1,4 @@
-use Rattle.pg_board.specs.Bits.{has}
-use Rattle.pg_board.specs.Tally.{count_below}
+use Rattle.pg_tolls.proofs.Common.{has, count_below}
 use Rattle.pg_tolls.proofs.RowLemmas.{IsLeastSoFar}
 use Rattle.pg_tolls.proofs.rows.least_of.Given as goal
 

@@ -1,4 +1,4 @@
-use Rattle.std.proofs.Common.{arith}
+use Rattle.pg_tolls.proofs.Common.{arith}
 use Rattle.pg_tolls.proofs.LaneLemmas.{least_lanes}
 use Rattle.pg_tolls.proofs.rows.lesser.Goals as goal
 

@@ -1,5 +1,4 @@
-use Rattle.std.proofs.Common.{◌≡◌, length}
-use Rattle.pg_tolls.specs.inner.Closing.{AreRowsOf}
+use Rattle.pg_tolls.proofs.Common.{◌≡◌, length, AreRowsOf}
 use Rattle.pg_tolls.proofs.rows.rows_of.Given as goal
 
 abbrev pub invariant-loop-at : goal.invariant-loop-at

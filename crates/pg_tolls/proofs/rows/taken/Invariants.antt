@@ -1,6 +1,4 @@
-use Rattle.std.proofs.Common.{◌≡◌, length}
-use Rattle.pg_tolls.specs.Stated.{stated}
-use Rattle.pg_tolls.specs.inner.Closing.{AreTaken}
+use Rattle.pg_tolls.proofs.Common.{◌≡◌, length, stated, AreTaken}
 use Rattle.pg_tolls.proofs.rows.taken.Given as goal
 
 abbrev pub invariant-loop-at : goal.invariant-loop-at

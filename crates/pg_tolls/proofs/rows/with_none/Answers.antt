@@ -1,4 +1,4 @@
-use Rattle.std.proofs.Common.{arith}
+use Rattle.pg_tolls.proofs.Common.{arith}
 use Rattle.pg_tolls.proofs.LaneLemmas.{picked_below}
 use Rattle.pg_tolls.proofs.rows.with_none.Goals as goal
 

@@ -1,5 +1,4 @@
-use Rattle.pg_tolls.specs.Stated.{stated}
-use Rattle.pg_tolls.specs.inner.Closing.{HasLowTolls}
+use Rattle.pg_tolls.proofs.Common.{stated, HasLowTolls}
 use Rattle.pg_tolls.proofs.tables.look_at_tolls.Given as goal
 
 abbrev pub invariant-loop-at : goal.invariant-loop-at

@@ -1,7 +1,4 @@
-use Rattle.std.proofs.Common.{subst, List, ℕ}
-use Rattle.pg_journeys.specs.Known.{known}
-use Rattle.pg_tolls.specs.Stated.{stated}
-use Rattle.pg_tolls.specs.inner.Closing.{AreLayers}
+use Rattle.pg_tolls.proofs.Common.{subst, List, ℕ, known, stated, AreLayers}
 use Rattle.pg_tolls.proofs.ClosingLemmas.{none_closed, closed_by}
 use Rattle.pg_tolls.proofs.TightHalves.{numbers_closed}
 use Rattle.pg_tolls.proofs.tables.tables_of.Goals as goal

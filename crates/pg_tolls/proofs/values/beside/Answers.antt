@@ -1,5 +1,4 @@
-use Rattle.std.proofs.Common.{◌+◌, Some, sym, ap, arith, ◌∙◌}
-use Rattle.pg_tolls.specs.inner.Bills.{IsCostBy}
+use Rattle.pg_tolls.proofs.Common.{◌+◌, Some, sym, ap, arith, ◌∙◌, IsCostBy}
 use Rattle.pg_tolls.proofs.LeastLemmas.{beside_lesser, beside_none, beside_reached}
 use Rattle.pg_tolls.proofs.Billing.{above_leasts, none_by_bill, least_by_bill}
 use Rattle.pg_tolls.proofs.values.beside.Goals as goal

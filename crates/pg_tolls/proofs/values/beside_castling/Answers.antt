@@ -1,4 +1,4 @@
-use Rattle.std.proofs.Common.{Some}
+use Rattle.pg_tolls.proofs.Common.{Some}
 use Rattle.pg_tolls.proofs.Unlifted.{opened, closed}
 use Rattle.pg_tolls.proofs.Sparing.{not_below}
 use Rattle.pg_tolls.proofs.values.beside_castling.Goals as goal

@@ -1,6 +1,5 @@
-use Rattle.std.proofs.Common.{Some, refl, ap, ◌∙◌}
+use Rattle.pg_tolls.proofs.Common.{Some, refl, ap, ◌∙◌, holds}
 use Rattle.pg_position.specs.declared.rights.Rights.{Rights}
-use Rattle.pg_position.specs.Position.{holds}
 use Rattle.pg_tolls.proofs.Openings.{open_by, closed_by}
 use Rattle.pg_tolls.proofs.values.is_open.Goals as goal
 

@@ -1,5 +1,4 @@
-use Rattle.std.proofs.Common.{Some, None, refl, ap, ◌∙◌}
-use Rattle.pg_assignments.specs.Search.{lesser_of}
+use Rattle.pg_tolls.proofs.Common.{Some, None, refl, ap, ◌∙◌, lesser_of}
 use Rattle.pg_tolls.proofs.Unlifted.{lesser_is}
 use Rattle.pg_tolls.proofs.values.lesser.Goals as goal
 

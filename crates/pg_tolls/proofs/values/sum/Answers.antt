@@ -1,5 +1,4 @@
-use Rattle.std.proofs.Common.{get_or, sym, arith}
-use Rattle.pg_board.specs.lemmas.Sums.{total-none, total-more}
+use Rattle.pg_tolls.proofs.Common.{get_or, sym, arith, total-none, total-more}
 use Rattle.pg_tolls.proofs.values.sum.Goals as goal
 
 pub loop-i-init : goal.loop-i-init

@@ -1,5 +1,4 @@
-use Rattle.std.proofs.Common.{◌≡◌, ◌*◌, ◌≤◌, get_or}
-use Rattle.pg_board.specs.Tally.{total}
+use Rattle.pg_tolls.proofs.Common.{◌≡◌, ◌*◌, ◌≤◌, get_or, total}
 use Rattle.pg_tolls.proofs.values.sum.Given as goal
 
 abbrev pub invariant-loop-i : goal.invariant-loop-i

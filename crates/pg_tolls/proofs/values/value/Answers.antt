@@ -1,7 +1,6 @@
-use Rattle.std.proofs.Common.{arith}
+use Rattle.pg_tolls.proofs.Common.{arith, IsCostBy}
 use Rattle.pg_tolls.proofs.LeastLemmas.{first_least}
 use Rattle.pg_tolls.proofs.Unlifted.{least_cost}
-use Rattle.pg_tolls.specs.inner.Bills.{IsCostBy}
 use Rattle.pg_tolls.proofs.values.value.Goals as goal
 
 pub returns : goal.returns

@@ -1,6 +1,4 @@
-use Rattle.std.proofs.Common.{sym, subst, ◌∙◌}
-use Rattle.pg_board.specs.declared.man.Color.{Color}
-use Rattle.pg_travel.specs.inner.AfterMove.{IsTold}
+use Rattle.pg_travel.proofs.Common.{sym, subst, ◌∙◌, Color, IsTold}
 use Rattle.pg_travel.proofs.AfterMove.{told_after}
 use Rattle.pg_travel.proofs.after_move.above_after.Goals as goal
 

@@ -1,4 +1,4 @@
-use Rattle.std.proofs.Common.{ltb-true, arith}
+use Rattle.pg_travel.proofs.Common.{ltb-true, arith}
 use Rattle.pg_travel.proofs.AfterMove.{if_held}
 use Rattle.pg_travel.proofs.CastledRows.{castled_over}
 use Rattle.pg_travel.proofs.after_move.castled_above.Goals as goal

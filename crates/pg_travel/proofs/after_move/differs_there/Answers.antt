@@ -1,4 +1,4 @@
-use Rattle.std.proofs.Common.{sym, ◌∙◌}
+use Rattle.pg_travel.proofs.Common.{sym, ◌∙◌}
 use Rattle.pg_travel.proofs.AfterMove.{unlike_there}
 use Rattle.pg_travel.proofs.after_move.differs_there.Goals as goal
 

@@ -1,6 +1,4 @@
-use Rattle.std.proofs.Common.{subst, ◌∙◌}
-use Rattle.pg_board.specs.Placement.{Placement}
-use Rattle.pg_travel.specs.inner.AfterMove.{IsMoved, NonePays}
+use Rattle.pg_travel.proofs.Common.{subst, ◌∙◌, Placement, IsMoved, NonePays}
 use Rattle.pg_travel.proofs.AfterMove.{told_after}
 use Rattle.pg_travel.proofs.after_move.far_off_after.Goals as goal
 

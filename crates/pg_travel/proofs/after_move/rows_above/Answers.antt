@@ -1,8 +1,4 @@
-use Rattle.std.proofs.Common.{sym, subst, arith, ◌∙◌}
-use Rattle.pg_board.specs.Placement.{Placement}
-use Rattle.pg_position.specs.Position.{Stands}
-use Rattle.pg_travel.specs.inner.AfterMove.{AreMoved}
-use Rattle.pg_travel.specs.inner.LeastRows.{IsBelow}
+use Rattle.pg_travel.proofs.Common.{sym, subst, arith, ◌∙◌, Placement, Stands, AreMoved, IsBelow}
 use Rattle.pg_travel.proofs.AfterMove.{kind_there}
 use Rattle.pg_travel.proofs.CastledRows.{free_over}
 use Rattle.pg_travel.proofs.after_move.rows_above.Goals as goal

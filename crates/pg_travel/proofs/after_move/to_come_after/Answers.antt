@@ -1,4 +1,4 @@
-use Rattle.std.proofs.Common.{sym, ◌∙◌}
+use Rattle.pg_travel.proofs.Common.{sym, ◌∙◌}
 use Rattle.pg_travel.proofs.AfterMove.{elsewhere_come, all_come}
 use Rattle.pg_travel.proofs.after_move.to_come_after.Goals as goal
 

@@ -1,6 +1,4 @@
-use Rattle.std.proofs.Common.{sym, subst, arith, ◌∙◌}
-use Rattle.pg_board.specs.Placement.{Placement}
-use Rattle.pg_travel.specs.inner.AfterMove.{AreMoved, AreToCome}
+use Rattle.pg_travel.proofs.Common.{sym, subst, arith, ◌∙◌, Placement, AreMoved, AreToCome}
 use Rattle.pg_travel.proofs.AfterMove.{all_far, each_far}
 use Rattle.pg_travel.proofs.after_move.too_many_to_come.Goals as goal
 

@@ -1,5 +1,4 @@
-use Rattle.std.proofs.Common.{◌≤◌, arith}
-use Rattle.pg_travel.specs.inner.Formulas.{least_steps, distance_of}
+use Rattle.pg_travel.proofs.Common.{◌≤◌, arith, least_steps, distance_of}
 use Rattle.pg_travel.proofs.Nearness.{no_sooner}
 use Rattle.pg_travel.proofs.distances.closer.Goals as goal
 

@@ -1,4 +1,4 @@
-use Rattle.pg_travel.specs.lemmas.Pawns.{none_by_steps, some_by_steps}
+use Rattle.pg_travel.proofs.Common.{none_by_steps, some_by_steps}
 use Rattle.pg_travel.proofs.distances.distance.Goals as goal
 
 pub returns-then-n-eq64 : goal.returns-then-n-eq64

@@ -1,5 +1,4 @@
-use Rattle.std.proofs.Common.{ℕ, ◌≤◌, ap, sym, subst, ◌∙◌}
-use Rattle.pg_travel.specs.inner.Formulas.{mirrored}
+use Rattle.pg_travel.proofs.Common.{ℕ, ◌≤◌, ap, sym, subst, ◌∙◌, mirrored}
 use Rattle.pg_travel.proofs.PawnRows.{white_at, black_at, pawn_low}
 use Rattle.pg_travel.proofs.distances.pawn.Goals as goal
 

@@ -1,5 +1,4 @@
-use Rattle.std.proofs.Common.{ℕ, ap, ◌∙◌}
-use Rattle.pg_travel.specs.inner.Formulas.{mirrored}
+use Rattle.pg_travel.proofs.Common.{ℕ, ap, ◌∙◌, mirrored}
 use Rattle.pg_travel.proofs.PromotedRows.{white_promoted, black_promoted}
 use Rattle.pg_travel.proofs.distances.promoted.Goals as goal
 

@@ -1,5 +1,5 @@
 use Rattle.pg_travel.specs.lemmas.OriginsLemmas.{origins_of_game}
-use Rattle.pg_travel.specs.lemmas.NeedLemmas.{distances_of_game}
+use Rattle.pg_travel.proofs.Common.{distances_of_game}
 use Rattle.pg_travel.proofs.laws.origins_law.Goals as goal
 
 pub returns : goal.returns

@@ -1,4 +1,4 @@
-use Rattle.pg_travel.specs.lemmas.NeedLemmas.{test_is_barren}
+use Rattle.pg_travel.proofs.Common.{test_is_barren}
 use Rattle.pg_travel.proofs.laws.travel_law.Goals as goal
 
 pub returns : goal.returns

@@ -1,8 +1,4 @@
-use Rattle.std.proofs.Common.{◌≡◌, Bool, false, ap, subst, sym, ◌∙◌}
-use Rattle.pg_board.specs.declared.man.Color.{Color}
-use Rattle.pg_position.specs.declared.rights.Wing.TheVariants.{KingSide}
-use Rattle.pg_captures.specs.Owed.{plies_left}
-use Rattle.pg_travel.specs.inner.Within.{CastledIs}
+use Rattle.pg_travel.proofs.Common.{◌≡◌, Bool, false, ap, subst, sym, ◌∙◌, Color, KingSide, plies_left, CastledIs}
 use Rattle.pg_travel.proofs.Within.{free_paid, castled_paid, told}
 use Rattle.pg_travel.proofs.LeastRows.{few_plies, free_within, free_above}
 use Rattle.pg_travel.proofs.least_rows.excludes_by.Goals as goal

@@ -1,5 +1,4 @@
-use Rattle.std.proofs.Common.{ℕ, subst}
-use Rattle.pg_travel.specs.inner.LeastRows.{IsUnreached}
+use Rattle.pg_travel.proofs.Common.{ℕ, subst, IsUnreached}
 use Rattle.pg_travel.proofs.least_rows.least_off.Goals as goal
 
 pub returns : goal.returns

@@ -1,5 +1,4 @@
-use Rattle.std.proofs.Common.{arith}
-use Rattle.pg_travel.specs.inner.LeastRows.{AreLesser}
+use Rattle.pg_travel.proofs.Common.{arith, AreLesser}
 use Rattle.pg_travel.proofs.least_rows.lesser.Goals as goal
 
 pub returns : goal.returns

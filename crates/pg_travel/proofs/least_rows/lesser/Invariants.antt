@@ -1,4 +1,4 @@
-use Rattle.std.proofs.Common.{◌≡◌, ℕ, ◌<◌, ◌≤◌, length, get_or, min}
+use Rattle.pg_travel.proofs.Common.{◌≡◌, ℕ, ◌<◌, ◌≤◌, length, get_or, min}
 use Rattle.pg_travel.proofs.least_rows.lesser.Given as goal
 
 abbrev pub invariant-loop-i : goal.invariant-loop-i

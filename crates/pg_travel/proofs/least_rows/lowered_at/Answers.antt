@@ -1,5 +1,4 @@
-use Rattle.std.proofs.Common.{sym, ap, ◌∙◌}
-use Rattle.pg_board.specs.Men.{is_of}
+use Rattle.pg_travel.proofs.Common.{sym, ap, ◌∙◌, is_of}
 use Rattle.pg_travel.proofs.LeastRows.{lowered_here, lowered_off}
 use Rattle.pg_travel.proofs.least_rows.lowered_at.Goals as goal
 

@@ -1,4 +1,4 @@
-use Rattle.pg_travel.specs.inner.LeastRows.{StandsOff}
+use Rattle.pg_travel.proofs.Common.{StandsOff}
 use Rattle.pg_travel.proofs.LeastRows.{stands_off, by_first, by_next, by_all}
 use Rattle.pg_travel.proofs.TakenSets.{all_left, fewer}
 use Rattle.pg_travel.proofs.least_rows.lowered_by.Goals as goal

@@ -1,7 +1,4 @@
-use Rattle.std.proofs.Common.{None}
-use Rattle.pg_board.specs.Bits.{has}
-use Rattle.pg_board.specs.Tally.{count_below}
-use Rattle.pg_travel.specs.inner.LeastRows.{IsLowered, StandsOff}
+use Rattle.pg_travel.proofs.Common.{None, has, count_below, IsLowered, StandsOff}
 use Rattle.pg_travel.proofs.LeastRows.{Taken}
 use Rattle.pg_travel.proofs.TakenSets.{AreAll}
 use Rattle.pg_travel.proofs.least_rows.lowered_by.Given as goal

@@ -1,4 +1,4 @@
-use Rattle.pg_board.specs.declared.man.Kind.TheVariants.{Pawn, Knight, Bishop, Rook, Queen, King}
+use Rattle.pg_travel.proofs.Common.{Pawn, Knight, Bishop, Rook, Queen, King}
 use Rattle.pg_travel.proofs.LeastRows.{of_kind, off_lowered}
 use Rattle.pg_travel.proofs.least_rows.lowered_by_all.Goals as goal
 

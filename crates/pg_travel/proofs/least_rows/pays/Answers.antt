@@ -1,5 +1,4 @@
-use Rattle.std.proofs.Common.{get_or, refl}
-use Rattle.pg_board.specs.Tally.{total}
+use Rattle.pg_travel.proofs.Common.{get_or, refl, total}
 use Rattle.pg_travel.proofs.LeastRows.{row_pays}
 use Rattle.pg_travel.proofs.least_rows.pays.Goals as goal
 

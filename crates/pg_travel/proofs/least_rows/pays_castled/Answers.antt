@@ -1,6 +1,4 @@
-use Rattle.std.proofs.Common.{ap, sym, arith, ◌∙◌}
-use Rattle.pg_position.specs.declared.rights.Rights.{Rights}
-use Rattle.pg_position.specs.Position.{holds}
+use Rattle.pg_travel.proofs.Common.{ap, sym, arith, ◌∙◌, Rights, holds}
 use Rattle.pg_travel.proofs.Within.{castled_by}
 use Rattle.pg_travel.proofs.CastledRows.{castled_over, free_is_below}
 use Rattle.pg_travel.proofs.least_rows.pays_castled.Goals as goal

@@ -1,4 +1,4 @@
-use Rattle.std.proofs.Common.{sym}
+use Rattle.pg_travel.proofs.Common.{sym}
 use Rattle.pg_travel.proofs.least_rows.pays_exactly.Goals as goal
 
 pub returns : goal.returns

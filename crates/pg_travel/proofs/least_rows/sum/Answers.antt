@@ -1,6 +1,4 @@
-use Rattle.std.proofs.Common.{◌≡◌, get_or, sym, ap, arith, ◌∙◌}
-use Rattle.pg_board.specs.Tally.{total}
-use Rattle.pg_board.specs.lemmas.Sums.{total-none, total-more}
+use Rattle.pg_travel.proofs.Common.{◌≡◌, get_or, sym, ap, arith, ◌∙◌, total, total-none, total-more}
 use Rattle.pg_travel.proofs.least_rows.sum.Goals as goal
 
 pub loop-i-init : goal.loop-i-init

@@ -1,5 +1,4 @@
-use Rattle.std.proofs.Common.{◌≡◌, ◌*◌, ◌≤◌, get_or}
-use Rattle.pg_board.specs.Tally.{total}
+use Rattle.pg_travel.proofs.Common.{◌≡◌, ◌*◌, ◌≤◌, get_or, total}
 use Rattle.pg_travel.proofs.least_rows.sum.Given as goal
 
 abbrev pub invariant-loop-i : goal.invariant-loop-i

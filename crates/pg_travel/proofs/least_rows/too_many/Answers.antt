@@ -1,4 +1,4 @@
-use Rattle.std.proofs.Common.{◌+◌, sym, ltb-true, arith, ◌∙◌}
+use Rattle.pg_travel.proofs.Common.{◌+◌, sym, ltb-true, arith, ◌∙◌}
 use Rattle.pg_travel.proofs.Within.{surely_unpaid}
 use Rattle.pg_travel.proofs.least_rows.too_many.Goals as goal
 

@@ -1,6 +1,4 @@
-use Rattle.std.proofs.Common.{Option, sym, subst}
-use Rattle.pg_travel.specs.inner.Within.{CostsEach}
-use Rattle.pg_position.specs.declared.rights.Wing.{Wing}
+use Rattle.pg_travel.proofs.Common.{Option, sym, subst, CostsEach, Wing}
 use Rattle.pg_travel.proofs.Within.{sure_free, sure_castled}
 use Rattle.pg_travel.proofs.misplaced.sure_to_cost.Goals as goal
 

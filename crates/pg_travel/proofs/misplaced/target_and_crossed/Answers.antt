@@ -1,4 +1,4 @@
-use Rattle.pg_board.proofs.SetLemmas.{set_of_union}
+use Rattle.pg_travel.proofs.Common.{set_of_union}
 use Rattle.pg_travel.proofs.misplaced.target_and_crossed.Goals as goal
 
 pub returns : goal.returns

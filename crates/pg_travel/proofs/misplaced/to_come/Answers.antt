@@ -1,6 +1,4 @@
-use Rattle.std.proofs.Common.{Option, sym, subst}
-use Rattle.pg_travel.specs.inner.Within.{CostsOnly}
-use Rattle.pg_position.specs.declared.rights.Wing.{Wing}
+use Rattle.pg_travel.proofs.Common.{Option, sym, subst, CostsOnly, Wing}
 use Rattle.pg_travel.proofs.Within.{costs_free, costs_castled}
 use Rattle.pg_travel.proofs.misplaced.to_come.Goals as goal
 

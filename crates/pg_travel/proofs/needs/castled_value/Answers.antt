@@ -1,6 +1,4 @@
-use Rattle.std.proofs.Common.{ap, sym, ◌∙◌}
-use Rattle.pg_position.specs.declared.rights.Rights.{Rights}
-use Rattle.pg_position.specs.Position.{holds}
+use Rattle.pg_travel.proofs.Common.{ap, sym, ◌∙◌, Rights, holds}
 use Rattle.pg_travel.proofs.Within.{held_beside, none_beside}
 use Rattle.pg_travel.proofs.needs.castled_value.Goals as goal
 

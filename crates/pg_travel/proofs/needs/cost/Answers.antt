@@ -1,5 +1,4 @@
-use Rattle.std.proofs.Common.{sym, ◌∙◌}
-use Rattle.pg_travel.specs.lemmas.Values.{cost_home}
+use Rattle.pg_travel.proofs.Common.{sym, ◌∙◌, cost_home}
 use Rattle.pg_travel.proofs.needs.cost.Goals as goal
 
 pub returns-then-is_home-clause-value : goal.returns-then-is_home-clause-value

@@ -1,8 +1,4 @@
-use Rattle.std.proofs.Common.{Bool, None, ap, subst, ◌∙◌}
-use Rattle.pg_board.specs.declared.man.Color.{Color}
-use Rattle.pg_position.specs.declared.rights.Wing.TheVariants.{KingSide}
-use Rattle.pg_captures.specs.Owed.{plies_left}
-use Rattle.pg_travel.specs.inner.Within.{PaysIs, CastledIs}
+use Rattle.pg_travel.proofs.Common.{Bool, None, ap, subst, ◌∙◌, Color, KingSide, plies_left, PaysIs, CastledIs}
 use Rattle.pg_travel.proofs.Within.{free_paid, castled_paid, told}
 use Rattle.pg_travel.proofs.needs.excludes_for.Goals as goal
 

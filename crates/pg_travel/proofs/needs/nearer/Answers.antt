@@ -1,8 +1,4 @@
-use Rattle.std.proofs.Common.{◌≡◌, ℕ, ◌+◌, ◌<◌, min, sym, ap, arith, ◌∙◌}
-use Rattle.pg_board.specs.Placement.{get}
-use Rattle.pg_travel.specs.Origins.{counted}
-use Rattle.pg_travel.specs.inner.Formulas.{least_of, distance_of}
-use Rattle.pg_travel.specs.inner.Costs.{reach_from, nearest_man}
+use Rattle.pg_travel.proofs.Common.{◌≡◌, ℕ, ◌+◌, ◌<◌, min, sym, ap, arith, ◌∙◌, get, counted, least_of, distance_of, reach_from, nearest_man}
 use Rattle.pg_travel.proofs.Nearness.{band_first, band_low, band_past, least_reached_from, least_reached_at}
 use Rattle.pg_travel.proofs.needs.nearer.Goals as goal
 

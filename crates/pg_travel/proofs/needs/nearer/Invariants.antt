@@ -1,7 +1,4 @@
-use Rattle.std.proofs.Common.{◌≡◌, ◌-◌, ◌≤◌, min}
-use Rattle.pg_board.specs.Placement.{get}
-use Rattle.pg_travel.specs.inner.Formulas.{least_of}
-use Rattle.pg_travel.specs.inner.Costs.{reach_from}
+use Rattle.pg_travel.proofs.Common.{◌≡◌, ◌-◌, ◌≤◌, min, get, least_of, reach_from}
 use Rattle.pg_travel.proofs.needs.nearer.Given as goal
 
 abbrev pub invariant-loop-o : goal.invariant-loop-o

@@ -1,8 +1,4 @@
-use Rattle.std.proofs.Common.{◌≡◌, ℕ, min, sym, ap, arith, ◌∙◌}
-use Rattle.pg_board.specs.declared.man.Kind.TheVariants.{Pawn}
-use Rattle.pg_board.specs.declared.man.Man.{Man}
-use Rattle.pg_board.specs.Men.{man}
-use Rattle.pg_travel.specs.inner.Costs.{nearest, nearest_man}
+use Rattle.pg_travel.proofs.Common.{◌≡◌, ℕ, min, sym, ap, arith, ◌∙◌, Pawn, Man, man, nearest, nearest_man}
 use Rattle.pg_travel.proofs.Nearness.{whole_beyond, pawns_beyond, nearest_promoted, nearest_plain}
 use Rattle.pg_travel.proofs.needs.nearest.Goals as goal
 

@@ -1,5 +1,4 @@
-use Rattle.std.proofs.Common.{ℕ, Option, sym, subst}
-use Rattle.pg_travel.specs.Needs.{NeedIs}
+use Rattle.pg_travel.proofs.Common.{ℕ, Option, sym, subst, NeedIs}
 use Rattle.pg_travel.proofs.Within.{need_beside}
 use Rattle.pg_travel.proofs.needs.need.Goals as goal
 

@@ -1,4 +1,4 @@
-use Rattle.std.proofs.Common.{None}
+use Rattle.pg_travel.proofs.Common.{None}
 use Rattle.pg_travel.proofs.Within.{pays_not, pays_by}
 use Rattle.pg_travel.proofs.needs.pays.Goals as goal
 

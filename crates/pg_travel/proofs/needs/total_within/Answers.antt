@@ -1,10 +1,4 @@
-use Rattle.std.proofs.Common.{◌≡◌, ◌≢◌, ℕ, ◌+◌, ◌*◌, ◌<◌, ◌≤◌, inl, inr, ap, subst, sym, arith, count_ones, ◌∙◌}
-use Rattle.std.proofs.lemmas.Bool.Decides.{eqb_tells, leb_tells}
-use Rattle.pg_board.specs.Bits.{has}
-use Rattle.pg_board.specs.Tally.{one, count_below, total}
-use Rattle.pg_board.specs.lemmas.Sums.{total-none}
-use Rattle.pg_travel.specs.Origins.{charge}
-use Rattle.pg_travel.specs.inner.Costs.{cost}
+use Rattle.pg_travel.proofs.Common.{◌≡◌, ◌≢◌, ℕ, ◌+◌, ◌*◌, ◌<◌, ◌≤◌, inl, inr, ap, subst, sym, arith, count_ones, ◌∙◌, eqb_tells, leb_tells, has, one, count_below, total, total-none, charge, cost}
 use Rattle.pg_travel.proofs.Skips.{sum_skip}
 use Rattle.pg_travel.proofs.Within.{costs_off, costs_sure, sure_off, sum_goes_on, within_over, within_sure}
 use Rattle.pg_travel.proofs.needs.total_within.Goals as goal

@@ -1,9 +1,4 @@
-use Rattle.std.proofs.Common.{◌≡◌, ℕ, ◌+◌, ◌-◌, ◌*◌, ◌<◌, ◌≤◌, count_ones}
-use Rattle.pg_board.specs.Bits.{has}
-use Rattle.pg_board.specs.Tally.{count_below, total}
-use Rattle.pg_travel.specs.Origins.{charge}
-use Rattle.pg_travel.specs.inner.Costs.{cost}
-use Rattle.pg_travel.specs.inner.Within.{CostsOnly, CostsEach}
+use Rattle.pg_travel.proofs.Common.{◌≡◌, ℕ, ◌+◌, ◌-◌, ◌*◌, ◌<◌, ◌≤◌, count_ones, has, count_below, total, charge, cost, CostsOnly, CostsEach}
 use Rattle.pg_travel.proofs.needs.total_within.Given as goal
 
 abbrev pub invariant-loop-t : goal.invariant-loop-t

@@ -1,5 +1,4 @@
-use Rattle.std.proofs.Common.{ap, arith, ◌-◌, ◌*◌, ◌%◌, ◌^◌, ◌∙◌}
-use Rattle.pg_board.specs.Bits.{has}
+use Rattle.pg_travel.proofs.Common.{ap, arith, ◌-◌, ◌*◌, ◌%◌, ◌^◌, ◌∙◌, has}
 use Rattle.pg_travel.proofs.SourceLemmas.{before_has}
 use Rattle.pg_travel.proofs.numbers.squares_before.Goals as goal
 

@@ -1,4 +1,4 @@
-use Rattle.pg_travel.specs.lemmas.TravelPricesLaw.{travel_prices_barren}
+use Rattle.pg_travel.proofs.Common.{travel_prices_barren}
 use Rattle.pg_travel.proofs.PriceLemmas.{each_told}
 use Rattle.pg_travel.proofs.price_cuts.prices_exclude_by.Goals as goal
 

@@ -1,10 +1,4 @@
-use Rattle.std.proofs.Common.{◌≡◌, sym, ap, ◌∙◌, arith, ◌+◌, ◌<◌}
-use Rattle.std.specs.Prelude.{sum}
-use Rattle.pg_board.specs.declared.man.Color.{Color}
-use Rattle.pg_captures.specs.Counting.{men, any_man}
-use Rattle.pg_captures.specs.Owed.{plies_left}
-use Rattle.pg_travel.specs.Origins.{charge}
-use Rattle.pg_captures.specs.PriceLists.{list_of}
+use Rattle.pg_travel.proofs.Common.{◌≡◌, sym, ap, ◌∙◌, arith, ◌+◌, ◌<◌, sum, Color, men, any_man, plies_left, charge, list_of}
 use Rattle.pg_travel.proofs.PriceLemmas.{way_wrong, way_at, fit_moved}
 use Rattle.pg_travel.proofs.SourceLemmas.{priced_low}
 use Rattle.pg_travel.proofs.price_cuts.way_excludes.Goals as goal

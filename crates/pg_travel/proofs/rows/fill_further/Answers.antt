@@ -1,4 +1,4 @@
-use Rattle.std.proofs.Common.{arith}
+use Rattle.pg_travel.proofs.Common.{arith}
 use Rattle.pg_travel.proofs.FurtherRows.{first_none, first_next, first_all, no_further}
 use Rattle.pg_travel.proofs.rows.fill_further.Goals as goal
 

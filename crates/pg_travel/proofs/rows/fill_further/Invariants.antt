@@ -1,4 +1,4 @@
-use Rattle.pg_travel.specs.inner.DistanceRows.{AreFirstFurther}
+use Rattle.pg_travel.proofs.Common.{AreFirstFurther}
 use Rattle.pg_travel.proofs.rows.fill_further.Given as goal
 
 abbrev pub invariant-loop-place : goal.invariant-loop-place

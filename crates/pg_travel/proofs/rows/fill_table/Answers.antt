@@ -1,4 +1,4 @@
-use Rattle.std.proofs.Common.{arith}
+use Rattle.pg_travel.proofs.Common.{arith}
 use Rattle.pg_travel.proofs.RowTables.{first_none, first_next, first_all}
 use Rattle.pg_travel.proofs.rows.fill_table.Goals as goal
 

@@ -1,4 +1,4 @@
-use Rattle.pg_travel.specs.inner.DistanceRows.{AreFirstRows}
+use Rattle.pg_travel.proofs.Common.{AreFirstRows}
 use Rattle.pg_travel.proofs.rows.fill_table.Given as goal
 
 abbrev pub invariant-loop-place : goal.invariant-loop-place

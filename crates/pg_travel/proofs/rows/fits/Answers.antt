@@ -1,4 +1,4 @@
-use Rattle.std.proofs.Common.{arith}
+use Rattle.pg_travel.proofs.Common.{arith}
 use Rattle.pg_travel.proofs.RowTables.{equal_zero, fits_next, fits_all}
 use Rattle.pg_travel.proofs.rows.fits.Goals as goal
 

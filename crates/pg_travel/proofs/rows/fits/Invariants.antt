@@ -1,5 +1,4 @@
-use Rattle.std.proofs.Common.{◌≡◌, ℕ, ◌<◌, ◌↔◌}
-use Rattle.pg_travel.specs.inner.DistanceRows.{FitsAt}
+use Rattle.pg_travel.proofs.Common.{◌≡◌, ℕ, ◌<◌, ◌↔◌, FitsAt}
 use Rattle.pg_travel.proofs.rows.fits.Given as goal
 
 abbrev pub invariant-loop-i : goal.invariant-loop-i

@@ -1,4 +1,4 @@
-use Rattle.std.proofs.Common.{refl, arith, ◌/◌}
+use Rattle.pg_travel.proofs.Common.{refl, arith, ◌/◌}
 use Rattle.pg_travel.proofs.FurtherRows.{at_white, at_black, at_none}
 use Rattle.pg_travel.proofs.rows.further_at.Goals as goal
 

@@ -1,7 +1,4 @@
-use Rattle.std.proofs.Common.{◌≡◌, ◌∙◌, ◌-◌, ℕ, Some, refl, ap, arith}
-use Rattle.pg_board.specs.Placement.{get}
-use Rattle.pg_captures.specs.Counting.{any_man}
-use Rattle.pg_captures.specs.PriceLists.{number_among}
+use Rattle.pg_travel.proofs.Common.{◌≡◌, ◌∙◌, ◌-◌, ℕ, Some, refl, ap, arith, get, any_man, number_among}
 use Rattle.pg_travel.proofs.MakingRows.{going_first, going_next, going_all, mask_all}
 use Rattle.pg_travel.proofs.SourceLemmas.{number_of, men_first}
 use Rattle.pg_travel.proofs.TakenSets.{all_left, fewer}

@@ -1,7 +1,4 @@
-use Rattle.std.proofs.Common.{◌≡◌, Some}
-use Rattle.pg_board.specs.Bits.{has}
-use Rattle.pg_board.specs.Placement.{get}
-use Rattle.pg_board.specs.Tally.{count_below}
+use Rattle.pg_travel.proofs.Common.{◌≡◌, Some, has, get, count_below}
 use Rattle.pg_travel.proofs.MakingRows.{IsGoing}
 use Rattle.pg_travel.proofs.TakenSets.{AreAll}
 use Rattle.pg_travel.proofs.rows.mask.Given as goal

@@ -1,5 +1,4 @@
-use Rattle.std.proofs.Common.{ℕ, ◌-◌, ap, subst, ◌∙◌}
-use Rattle.pg_travel.specs.inner.LeastRows.{IsUnreached}
+use Rattle.pg_travel.proofs.Common.{ℕ, ◌-◌, ap, subst, ◌∙◌, IsUnreached}
 use Rattle.pg_travel.proofs.MakingRows.{officer_row}
 use Rattle.pg_travel.proofs.rows.row.Goals as goal
 

@@ -1,4 +1,4 @@
-use Rattle.std.proofs.Common.{refl, arith}
+use Rattle.pg_travel.proofs.Common.{refl, arith}
 use Rattle.pg_travel.proofs.RowTables.{at_white, at_black}
 use Rattle.pg_travel.proofs.rows.row_at.Goals as goal
 

@@ -1,4 +1,4 @@
-use Rattle.std.proofs.Common.{◌∙◌, ◌-◌, ℕ, ap}
+use Rattle.pg_travel.proofs.Common.{◌∙◌, ◌-◌, ℕ, ap}
 use Rattle.pg_travel.proofs.MakingRows.{piece_row}
 use Rattle.pg_travel.proofs.rows.row_of_pieces.Goals as goal
 

@@ -1,4 +1,4 @@
-use Rattle.std.proofs.Common.{refl, arith}
+use Rattle.pg_travel.proofs.Common.{refl, arith}
 use Rattle.pg_travel.proofs.LeastRows.{unreached_next, unreached_all}
 use Rattle.pg_travel.proofs.rows.unreached.Goals as goal
 

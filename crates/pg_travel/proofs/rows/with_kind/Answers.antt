@@ -1,10 +1,4 @@
-use Rattle.std.proofs.Common.{◌≡◌, ◌∙◌, Some, refl, ap, arith}
-use Rattle.pg_board.specs.Men.{man}
-use Rattle.pg_board.specs.Placement.{get}
-use Rattle.pg_captures.specs.Counting.{any_man}
-use Rattle.pg_captures.specs.PriceLists.{number_among}
-use Rattle.pg_travel.specs.inner.DistanceRows.{stored}
-use Rattle.pg_travel.specs.inner.Formulas.{distance_of}
+use Rattle.pg_travel.proofs.Common.{◌≡◌, ◌∙◌, Some, refl, ap, arith, man, get, any_man, number_among, stored, distance_of}
 use Rattle.pg_travel.proofs.MakingRows.{going_first, going_next, going_all}
 use Rattle.pg_travel.proofs.SourceLemmas.{number_of, men_first}
 use Rattle.pg_travel.proofs.TakenSets.{all_left, fewer}

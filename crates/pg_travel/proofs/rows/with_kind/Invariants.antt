@@ -1,10 +1,4 @@
-use Rattle.std.proofs.Common.{◌≡◌, Some}
-use Rattle.pg_board.specs.Bits.{has}
-use Rattle.pg_board.specs.Men.{man}
-use Rattle.pg_board.specs.Placement.{get}
-use Rattle.pg_board.specs.Tally.{count_below}
-use Rattle.pg_travel.specs.inner.DistanceRows.{stored}
-use Rattle.pg_travel.specs.inner.Formulas.{distance_of}
+use Rattle.pg_travel.proofs.Common.{◌≡◌, Some, has, man, get, count_below, stored, distance_of}
 use Rattle.pg_travel.proofs.MakingRows.{IsGoing}
 use Rattle.pg_travel.proofs.TakenSets.{AreAll}
 use Rattle.pg_travel.proofs.rows.with_kind.Given as goal

@@ -1,4 +1,4 @@
-use Rattle.std.proofs.Common.{arith, [], ◌∷◌}
+use Rattle.pg_travel.proofs.Common.{arith, [], ◌∷◌}
 use Rattle.pg_travel.proofs.SourceLemmas.{one_page, are_paged, sources_by}
 use Rattle.pg_travel.proofs.sources.few_fit.Goals as goal
 

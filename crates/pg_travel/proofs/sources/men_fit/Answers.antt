@@ -1,5 +1,4 @@
-use Rattle.std.proofs.Common.{◌≡◌, Some}
-use Rattle.pg_board.specs.Placement.{get}
+use Rattle.pg_travel.proofs.Common.{◌≡◌, Some, get}
 use Rattle.pg_travel.proofs.SourceLemmas.{source_low, source_is, men_off, men_not, men_first, men_next, men_all}
 use Rattle.pg_travel.proofs.TakenSets.{all_left, fewer}
 use Rattle.pg_travel.proofs.sources.men_fit.Goals as goal

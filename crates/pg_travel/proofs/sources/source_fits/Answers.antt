@@ -1,4 +1,4 @@
-use Rattle.std.proofs.Common.{arith}
+use Rattle.pg_travel.proofs.Common.{arith}
 use Rattle.pg_travel.proofs.SourceLemmas.{fit_none, fit_next, fit_all, fit_not, page_at, few_pages}
 use Rattle.pg_travel.proofs.sources.source_fits.Goals as goal
 

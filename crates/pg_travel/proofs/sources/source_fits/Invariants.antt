@@ -1,4 +1,4 @@
-use Rattle.pg_travel.specs.inner.DistanceRows.{FirstFit}
+use Rattle.pg_travel.proofs.Common.{FirstFit}
 use Rattle.pg_travel.proofs.sources.source_fits.Given as goal
 
 abbrev pub invariant-loop-page : goal.invariant-loop-page

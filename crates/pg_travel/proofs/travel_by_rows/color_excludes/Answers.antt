@@ -1,6 +1,4 @@
-use Rattle.std.proofs.Common.{◌↔◌, IsTrue, subst}
-use Rattle.pg_board.specs.Placement.{Placement}
-use Rattle.pg_travel.specs.Needs.{TravelTest}
+use Rattle.pg_travel.proofs.Common.{◌↔◌, IsTrue, subst, Placement, TravelTest}
 use Rattle.pg_travel.proofs.travel_by_rows.color_excludes.Goals as goal
 
 pub returns-then-men-le16 : goal.returns-then-men-le16

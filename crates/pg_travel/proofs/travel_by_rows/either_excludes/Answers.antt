@@ -1,5 +1,4 @@
-use Rattle.pg_board.specs.declared.man.Color.{Color}
-use Rattle.pg_travel.specs.Needs.{TravelTest, TravelHolds}
+use Rattle.pg_travel.proofs.Common.{Color, TravelTest, TravelHolds}
 use Rattle.pg_travel.proofs.Sides.{of_this}
 use Rattle.pg_travel.proofs.travel_by_rows.either_excludes.Goals as goal
 

@@ -1,8 +1,4 @@
-use Rattle.std.proofs.Common.{◌↔◌, IsTrue, subst}
-use Rattle.pg_board.specs.declared.man.Color.{Color}
-use Rattle.pg_position.specs.declared.state.State.{State}
-use Rattle.pg_position.proofs.FutureLemmas.{one_result}
-use Rattle.pg_travel.specs.Needs.{TravelTest, TravelHolds}
+use Rattle.pg_travel.proofs.Common.{◌↔◌, IsTrue, subst, Color, State, one_result, TravelTest, TravelHolds}
 use Rattle.pg_travel.proofs.Sides.{of_other}
 use Rattle.pg_travel.proofs.travel_by_rows.either_excludes_after.Goals as goal
 

@@ -1,8 +1,4 @@
-use Rattle.std.proofs.Common.{◌↔◌, IsTrue, refl, subst}
-use Rattle.pg_board.specs.Placement.{Placement}
-use Rattle.pg_position.specs.declared.state.State.{State}
-use Rattle.pg_position.proofs.FutureLemmas.{one_result}
-use Rattle.pg_travel.specs.Needs.{TravelTest, TravelHolds}
+use Rattle.pg_travel.proofs.Common.{◌↔◌, IsTrue, refl, subst, Placement, State, one_result, TravelTest, TravelHolds}
 use Rattle.pg_travel.proofs.travel_by_rows.excludes_after_by.Goals as goal
 
 pub returns-then-above_after : goal.returns-then-above_after

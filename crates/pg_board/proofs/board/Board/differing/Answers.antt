@@ -1,4 +1,4 @@
-use Rattle.std.proofs.Common.{◌∙◌}
+use Rattle.pg_board.proofs.Common.{◌∙◌}
 use Rattle.pg_board.proofs.BoardLemmas.{sets_differ}
 use Rattle.pg_board.proofs.board.Board.differing.Goals as goal
 

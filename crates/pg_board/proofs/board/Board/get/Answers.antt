@@ -1,4 +1,4 @@
-use Rattle.std.proofs.Common.{◌∙◌}
+use Rattle.pg_board.proofs.Common.{◌∙◌}
 use Rattle.pg_board.proofs.BoardLemmas.{get_sets}
 use Rattle.pg_board.proofs.board.Board.get.Goals as goal
 

@@ -1,9 +1,5 @@
 -- The eight sets are sound, and are those that unpacking gives.
-use Rattle.std.proofs.Common.{sym, ◌∙◌, ap, subst}
-use Rattle.pg_board.specs.declared.packed.Quarters.{Quarters}
-use Rattle.pg_board.specs.inner.Packed.{unpacked, packed_sound, packed_shows}
-use Rattle.pg_board.specs.Placement.{placement_of}
-use Rattle.pg_board.specs.inner.Sets.{IsSound, man_in}
+use Rattle.pg_board.proofs.Common.{sym, ◌∙◌, ap, subst, Quarters, unpacked, packed_sound, packed_shows, placement_of, IsSound, man_in}
 use Rattle.pg_board.proofs.board.Board.packed.Goals as goal
 
 pub invariant_of-result : goal.invariant_of-result

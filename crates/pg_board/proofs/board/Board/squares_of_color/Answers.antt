@@ -1,4 +1,4 @@
-use Rattle.std.proofs.Common.{◌∙◌}
+use Rattle.pg_board.proofs.Common.{◌∙◌}
 use Rattle.pg_board.proofs.BoardLemmas.{sets_of_color}
 use Rattle.pg_board.proofs.board.Board.squares_of_color.Goals as goal
 

@@ -1,5 +1,4 @@
-use Rattle.std.proofs.lemmas.Bool.Decides.{same_from_decides}
-use Rattle.pg_board.specs.Equality.{placement_eq_decides}
+use Rattle.pg_board.proofs.Common.{same_from_decides, placement_eq_decides}
 use Rattle.pg_board.proofs.BoardLemmas.{same_from_sets, sets_from_same}
 use Rattle.pg_board.proofs.board.BoardPartialEq.eq.Goals as goal
 

@@ -1,8 +1,5 @@
 -- The same man stands on each square.
-use Rattle.std.proofs.Common.{sym, ◌∙◌, ap}
-use Rattle.pg_board.specs.declared.sets.Sets.{Sets}
-use Rattle.pg_board.specs.Placement.{placement_of, get-placement_of, same_placement}
-use Rattle.pg_board.specs.inner.Sets.{man_in}
+use Rattle.pg_board.proofs.Common.{sym, ◌∙◌, ap, Sets, placement_of, get-placement_of, same_placement, man_in}
 use Rattle.pg_board.proofs.packed.PackedBoard.board.Goals as goal
 
 pub returns : goal.returns

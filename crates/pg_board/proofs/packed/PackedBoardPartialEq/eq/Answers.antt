@@ -1,11 +1,5 @@
 -- Four sets show one board, and a board is shown by four sets alone.
-use Rattle.std.proofs.Common.{sym, ◌∙◌, ap}
-use Rattle.std.proofs.lemmas.Bool.Decides.{same_from_decides}
-use Rattle.pg_board.specs.declared.packed.Quarters.{Quarters}
-use Rattle.pg_board.specs.Placement.{placement_of}
-use Rattle.pg_board.specs.Equality.{placement_eq_decides}
-use Rattle.pg_board.specs.inner.Packed.{quarters_of, unpacked, quarters_back}
-use Rattle.pg_board.specs.inner.Sets.{man_in, sets_of}
+use Rattle.pg_board.proofs.Common.{sym, ◌∙◌, ap, same_from_decides, Quarters, placement_of, placement_eq_decides, quarters_of, unpacked, quarters_back, man_in, sets_of}
 use Rattle.pg_board.proofs.packed.PackedBoardPartialEq.eq.Goals as goal
 
 pub returns-clause-same : goal.returns-clause-same

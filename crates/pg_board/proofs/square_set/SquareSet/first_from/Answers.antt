@@ -1,4 +1,4 @@
-use Rattle.std.proofs.Common.{arith}
+use Rattle.pg_board.proofs.Common.{arith}
 use Rattle.pg_board.proofs.SetLemmas.{place_none, place_first}
 use Rattle.pg_board.proofs.square_set.SquareSet.first_from.Goals as goal
 

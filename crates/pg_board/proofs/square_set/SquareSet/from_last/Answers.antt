@@ -1,4 +1,4 @@
-use Rattle.std.proofs.Common.{refl}
+use Rattle.pg_board.proofs.Common.{refl}
 use Rattle.pg_board.proofs.SetLemmas.{last_and_on, or_one_led}
 use Rattle.pg_board.proofs.square_set.SquareSet.from_last.Goals as goal
 

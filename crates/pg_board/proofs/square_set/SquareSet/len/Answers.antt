@@ -1,4 +1,4 @@
-use Rattle.pg_board.specs.Bits.{ones-count}
+use Rattle.pg_board.proofs.Common.{ones-count}
 use Rattle.pg_board.proofs.square_set.SquareSet.len.Goals as goal
 
 pub returns-clause-squares : goal.returns-clause-squares

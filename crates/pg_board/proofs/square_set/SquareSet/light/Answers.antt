@@ -1,5 +1,4 @@
-use Rattle.pg_board.specs.Squares.{is_light}
-use Rattle.pg_board.specs.Bits.{bits_below, has-bits_below}
+use Rattle.pg_board.proofs.Common.{is_light, bits_below, has-bits_below}
 use Rattle.pg_board.proofs.square_set.SquareSet.light.Goals as goal
 
 pub returns : goal.returns

@@ -1,7 +1,4 @@
-use Rattle.std.proofs.Common.{◌≡◌, ℕ, zero, suc, ◌-◌, ◌*◌, ◌%◌, ◌^◌, ◌≤◌, eqb, refl, ap, ◌∙◌, arith}
-use Rattle.std.proofs.lemmas.Bool.Decides.{Decides-at, Decides-eqb}
-use Rattle.pg_board.specs.Bits.{has, bits_below, has-bits_below}
-use Rattle.pg_board.specs.Squares.{file}
+use Rattle.pg_board.proofs.Common.{◌≡◌, ℕ, zero, suc, ◌-◌, ◌*◌, ◌%◌, ◌^◌, ◌≤◌, eqb, refl, ap, ◌∙◌, arith, Decides-at, Decides-eqb, has, bits_below, has-bits_below, file}
 use Rattle.pg_board.proofs.square_set.SquareSet.of_file.Goals as goal
 
 file_bits : (n : ℕ) → 1 ≤ n → n ≤ 8 → 72340172838076673 * 2 ^ (n - 1) % 2 ^ 64 ≡ bits_below (λ s. eqb (file s) n) 64

@@ -1,5 +1,4 @@
-use Rattle.std.proofs.Common.{refl, arith}
-use Rattle.std.proofs.lemmas.Nat.{xor_lt}
+use Rattle.pg_board.proofs.Common.{refl, arith, xor_lt}
 use Rattle.pg_board.proofs.SetLemmas.{first_and_before}
 use Rattle.pg_board.proofs.square_set.SquareSet.up_to_first.Goals as goal
 

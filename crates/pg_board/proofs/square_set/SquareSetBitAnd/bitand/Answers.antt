@@ -1,4 +1,4 @@
-use Rattle.pg_board.specs.Bits.{has-and}
+use Rattle.pg_board.proofs.Common.{has-and}
 use Rattle.pg_board.proofs.square_set.SquareSetBitAnd.bitand.Goals as goal
 
 pub returns-clause-members : goal.returns-clause-members

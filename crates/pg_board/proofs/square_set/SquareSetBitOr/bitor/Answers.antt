@@ -1,5 +1,4 @@
-use Rattle.std.proofs.lemmas.Nat.{or_lt}
-use Rattle.pg_board.specs.Bits.{has-or}
+use Rattle.pg_board.proofs.Common.{or_lt, has-or}
 use Rattle.pg_board.proofs.square_set.SquareSetBitOr.bitor.Goals as goal
 
 pub invariant_of-result : goal.invariant_of-result

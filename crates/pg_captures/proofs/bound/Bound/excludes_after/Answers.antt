@@ -1,5 +1,4 @@
-use Rattle.std.proofs.Common.{◌≡◌}
-use Rattle.pg_position.proofs.FutureLemmas.{one_result}
+use Rattle.pg_captures.proofs.Common.{◌≡◌, one_result}
 use Rattle.pg_captures.proofs.bound.Bound.excludes_after.Goals as goal
 
 pub returns : goal.returns

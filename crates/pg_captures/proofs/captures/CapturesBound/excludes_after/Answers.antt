@@ -1,5 +1,4 @@
-use Rattle.pg_board.specs.lemmas.Decisions.{answer_is}
-use Rattle.pg_captures.specs.Decided.{dec_captures}
+use Rattle.pg_captures.proofs.Common.{answer_is, dec_captures}
 use Rattle.pg_captures.proofs.captures.CapturesBound.excludes_after.Goals as goal
 
 pub returns : goal.returns

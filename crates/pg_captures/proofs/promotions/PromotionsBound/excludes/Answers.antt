@@ -1,5 +1,4 @@
-use Rattle.pg_board.specs.lemmas.Decisions.{answer_is}
-use Rattle.pg_captures.specs.Decided.{dec_promotions}
+use Rattle.pg_captures.proofs.Common.{answer_is, dec_promotions}
 use Rattle.pg_captures.proofs.promotions.PromotionsBound.excludes.Goals as goal
 
 pub returns : goal.returns

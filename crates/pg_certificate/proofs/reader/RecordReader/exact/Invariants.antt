@@ -1,7 +1,4 @@
-use Rattle.std.proofs.Common.{◌≡◌, ℕ, get_or, ◌+◌, ◌<◌, ◌≤◌, length, take, true, false}
-use Rattle.std.specs.Prelude.{IfSome}
-use Rattle.std.specs.Io.KnownBytes.{Consumes}
-use Rattle.pg_certificate.specs.Reader.{to_come}
+use Rattle.pg_certificate.proofs.Common.{◌≡◌, ℕ, get_or, ◌+◌, ◌<◌, ◌≤◌, length, take, true, false, IfSome, Consumes, to_come}
 use Rattle.pg_certificate.proofs.reader.RecordReader.exact.Given as goal
 
 abbrev pub invariant-loop-i : goal.invariant-loop-i

@@ -1,6 +1,4 @@
-use Rattle.std.proofs.Common.{ℕ, List, subst, sym}
-use Rattle.std.specs.Io.KnownBytes.{Consumes}
-use Rattle.pg_certificate.specs.Reader.{to_come}
+use Rattle.pg_certificate.proofs.Common.{ℕ, List, subst, sym, Consumes, to_come}
 use Rattle.pg_certificate.proofs.PricedLemmas.{lists_held}
 use Rattle.pg_certificate.proofs.reader.RecordReader.lists.Goals as goal
 

@@ -1,4 +1,4 @@
-use Rattle.std.proofs.Common.{◌≡◌, ◌<◌, ℕ, length, arith}
+use Rattle.pg_certificate.proofs.Common.{◌≡◌, ◌<◌, ℕ, length, arith}
 use Rattle.pg_certificate.proofs.Numbers.{number_text}
 use Rattle.pg_certificate.proofs.reader.RecordReader.number.Goals as goal
 

@@ -1,5 +1,4 @@
-use Rattle.std.proofs.Common.{◌≤◌, length, ◌∙◌, sym, ap, subst, arith}
-use Rattle.pg_certificate.specs.Reader.{ReaderState}
+use Rattle.pg_certificate.proofs.Common.{◌≤◌, length, ◌∙◌, sym, ap, subst, arith, ReaderState}
 use Rattle.pg_certificate.proofs.PricedLemmas.{lists_taken, all_bytes}
 use Rattle.pg_certificate.proofs.reader.RecordReader.take_lists.Goals as goal
 

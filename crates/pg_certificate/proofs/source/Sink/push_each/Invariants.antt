@@ -1,5 +1,4 @@
-use Rattle.std.proofs.Common.{◌≡◌, ◌<◌, take, false}
-use Rattle.std.specs.Io.KnownBytes.{Appends}
+use Rattle.pg_certificate.proofs.Common.{◌≡◌, ◌<◌, take, false, Appends}
 use Rattle.pg_certificate.proofs.source.Sink.push_each.Given as goal
 
 -- the bytes so far were appended, to a sink that runs as it did

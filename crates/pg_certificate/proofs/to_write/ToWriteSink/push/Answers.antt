@@ -1,5 +1,4 @@
-use Rattle.std.proofs.Common.{arith}
-use Rattle.std.proofs.lemmas.List.{take_rest}
+use Rattle.pg_certificate.proofs.Common.{arith, take_rest}
 use Rattle.pg_certificate.proofs.Known.{Appends-next}
 use Rattle.pg_certificate.proofs.to_write.ToWriteSink.push.Goals as goal
 

@@ -1,5 +1,4 @@
-use Rattle.std.proofs.Common.{◌≡◌, ◌-◌, ◌≤◌, length, take, false}
-use Rattle.std.specs.Io.KnownBytes.{Appends}
+use Rattle.pg_certificate.proofs.Common.{◌≡◌, ◌-◌, ◌≤◌, length, take, false, Appends}
 use Rattle.pg_certificate.proofs.to_write.ToWriteSink.push.Given as goal
 
 abbrev pub invariant-loop-at : goal.invariant-loop-at

@@ -1,6 +1,4 @@
-use Rattle.std.proofs.Common.{◌≡◌, ◌<◌, take, true, false}
-use Rattle.std.specs.Io.KnownBytes.{Appends}
-use Rattle.pg_certificate.specs.Writer.{written}
+use Rattle.pg_certificate.proofs.Common.{◌≡◌, ◌<◌, take, true, false, Appends, written}
 use Rattle.pg_certificate.proofs.writer.RecordWriter.bytes.Given as goal
 
 abbrev pub invariant-loop-byte : goal.invariant-loop-byte

@@ -1,4 +1,4 @@
-use Rattle.std.proofs.Common.{arith}
+use Rattle.pg_certificate.proofs.Common.{arith}
 use Rattle.pg_certificate.proofs.WriteLemmas.{put_next}
 use Rattle.pg_certificate.proofs.writer.RecordWriter.prices.Goals as goal
 

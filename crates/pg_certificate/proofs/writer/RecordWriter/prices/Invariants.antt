@@ -1,6 +1,4 @@
-use Rattle.std.proofs.Common.{◌≡◌, length, false}
-use Rattle.std.specs.Io.KnownBytes.{Appends}
-use Rattle.pg_certificate.specs.Writer.{written}
+use Rattle.pg_certificate.proofs.Common.{◌≡◌, length, false, Appends, written}
 use Rattle.pg_certificate.proofs.WriteLemmas.{begun}
 use Rattle.pg_certificate.proofs.writer.RecordWriter.prices.Given as goal
 

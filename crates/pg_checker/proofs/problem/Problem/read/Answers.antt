@@ -1,4 +1,4 @@
-use Rattle.std.proofs.Common.{sym}
+use Rattle.pg_checker.proofs.Common.{sym}
 use Rattle.pg_checker.proofs.problem.Problem.read.Goals as goal
 
 pub returns-in-Err-read-clause-err : goal.returns-in-Err-read-clause-err

@@ -1,5 +1,4 @@
-use Rattle.std.proofs.Common.{◌∙◌, ap}
-use Rattle.pg_fen.specs.Packing.{packed_of}
+use Rattle.pg_fen.proofs.Common.{◌∙◌, ap, packed_of}
 use Rattle.pg_fen.proofs.PackingLemmas.{packed_apart}
 use Rattle.pg_fen.proofs.diagram.Diagram.packed.Goals as goal
 

@@ -1,5 +1,4 @@
-use Rattle.std.proofs.Common.{◌∙◌, sym}
-use Rattle.pg_fen.specs.Fields.{fields}
+use Rattle.pg_fen.proofs.Common.{◌∙◌, sym, fields}
 use Rattle.pg_fen.proofs.DiagramLemmas.{diagram_of_is}
 use Rattle.pg_fen.proofs.diagram.Diagram.read.Goals as goal
 

@@ -1,7 +1,4 @@
-use Rattle.std.proofs.Common.{◌∙◌, ap, subst, List, ℕ, ◌++◌}
-use Rattle.pg_fen.specs.Fields.{fields}
-use Rattle.pg_fen.specs.PlacementText.{placement_text}
-use Rattle.pg_fen.specs.DiagramText.{IsDiagram, diagram_of}
+use Rattle.pg_fen.proofs.Common.{◌∙◌, ap, subst, List, ℕ, ◌++◌, fields, placement_text, IsDiagram, diagram_of}
 use Rattle.pg_fen.proofs.GrammarLemmas.{written_again, written_alone}
 use Rattle.pg_fen.proofs.diagram.Diagram.write.Goals as goal
 

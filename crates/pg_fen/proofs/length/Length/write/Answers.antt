@@ -1,6 +1,4 @@
-use Rattle.std.proofs.Common.{◌≡◌, ◌+◌, ◌/◌, ◌%◌, ◌≤◌, [], ◌∷◌, ◌++◌, ap, ◌∙◌, arith, append_assoc}
-use Rattle.std.specs.Fmt.{decimal}
-use Rattle.pg_fen.specs.Lengths.{length_text, length_of}
+use Rattle.pg_fen.proofs.Common.{◌≡◌, ◌+◌, ◌/◌, ◌%◌, ◌≤◌, [], ◌∷◌, ◌++◌, ap, ◌∙◌, arith, append_assoc, decimal, length_text, length_of}
 use Rattle.pg_fen.proofs.Decimals.{decimal_of_two}
 use Rattle.pg_fen.proofs.LengthLemmas.{written_again, written_alone}
 use Rattle.pg_fen.proofs.length.Length.write.Goals as goal

@@ -1,4 +1,4 @@
-use Rattle.std.proofs.Common.{refl, arith}
+use Rattle.pg_journeys.proofs.Common.{refl, arith}
 use Rattle.pg_journeys.proofs.FrontLemmas.{meets_now}
 use Rattle.pg_journeys.proofs.fronts.Front.meet.Goals as goal
 

@@ -1,6 +1,4 @@
-use Rattle.std.proofs.Common.{refl, arith, subst, set, get_or}
-use Rattle.pg_journeys.specs.inner.Fronts.{AreTakenDue}
-use Rattle.pg_journeys.specs.declared.fronts.Front.{Front}
+use Rattle.pg_journeys.proofs.Common.{refl, arith, subst, set, get_or, AreTakenDue, Front}
 use Rattle.pg_journeys.proofs.FrontLemmas.{taken_due}
 use Rattle.pg_journeys.proofs.fronts.Front.take_due.Goals as goal
 

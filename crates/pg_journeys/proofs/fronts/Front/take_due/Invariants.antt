@@ -1,7 +1,4 @@
-use Rattle.std.proofs.Common.{◌≡◌, ◌<◌, ℕ, false}
-use Rattle.pg_board.specs.declared.man.Kind.{Kind}
-use Rattle.pg_board.specs.Men.{number_of_kind}
-use Rattle.pg_journeys.specs.inner.Fronts.{is_due}
+use Rattle.pg_journeys.proofs.Common.{◌≡◌, ◌<◌, ℕ, false, Kind, number_of_kind, is_due}
 use Rattle.pg_journeys.proofs.fronts.Front.take_due.Given as goal
 
 abbrev pub invariant-loop-k : goal.invariant-loop-k

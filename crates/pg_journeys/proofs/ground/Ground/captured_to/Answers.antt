@@ -1,12 +1,4 @@
-use Rattle.std.proofs.Common.{ℕ, sym, ap, subst}
-use Rattle.pg_board.specs.Bits.{has}
-use Rattle.pg_board.specs.declared.man.Color.{Color}
-use Rattle.pg_board.specs.declared.man.Kind.TheVariants.{Pawn}
-use Rattle.pg_board.specs.Men.{other}
-use Rattle.pg_board.specs.SquareSets.{IsSetOf}
-use Rattle.pg_position.specs.Geometry.{InPattern}
-use Rattle.pg_journeys.specs.Known.{known}
-use Rattle.pg_journeys.specs.inner.Grounds.{LedTo}
+use Rattle.pg_journeys.proofs.Common.{ℕ, sym, ap, subst, has, Color, Pawn, other, IsSetOf, InPattern, known, LedTo}
 use Rattle.pg_journeys.proofs.PawnLemmas.{taken_back}
 use Rattle.pg_journeys.proofs.ground.Ground.captured_to.Goals as goal
 

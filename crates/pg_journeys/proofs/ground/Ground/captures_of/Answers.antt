@@ -1,6 +1,4 @@
-use Rattle.std.proofs.Common.{ℕ, sym, ap}
-use Rattle.pg_board.specs.Bits.{has}
-use Rattle.pg_journeys.specs.Known.{known}
+use Rattle.pg_journeys.proofs.Common.{ℕ, sym, ap, has, known}
 use Rattle.pg_journeys.proofs.PawnLemmas.{taken_ahead}
 use Rattle.pg_journeys.proofs.ground.Ground.captures_of.Goals as goal
 

@@ -1,10 +1,4 @@
-use Rattle.std.proofs.Common.{◌≡◌, ℕ, subst}
-use Rattle.pg_board.specs.declared.man.Color.{Color}
-use Rattle.pg_board.specs.Men.{other}
-use Rattle.pg_board.specs.Squares.{rank}
-use Rattle.pg_board.specs.SquareSets.{IsSetOf}
-use Rattle.pg_journeys.specs.Known.{known}
-use Rattle.pg_journeys.specs.inner.Makings.{IsAheadOf}
+use Rattle.pg_journeys.proofs.Common.{◌≡◌, ℕ, subst, Color, other, rank, IsSetOf, known, IsAheadOf}
 use Rattle.pg_journeys.proofs.PawnLemmas.{pushed_back}
 use Rattle.pg_journeys.proofs.ground.Ground.pushed_to.Goals as goal
 

@@ -1,7 +1,4 @@
-use Rattle.std.proofs.Common.{◌≡◌, ℕ, subst}
-use Rattle.pg_board.specs.Squares.{rank}
-use Rattle.pg_board.specs.SquareSets.{IsSetOf}
-use Rattle.pg_journeys.specs.Known.{known}
+use Rattle.pg_journeys.proofs.Common.{◌≡◌, ℕ, subst, rank, IsSetOf, known}
 use Rattle.pg_journeys.proofs.PawnLemmas.{pushed_ahead}
 use Rattle.pg_journeys.proofs.ground.Ground.pushes_of.Goals as goal
 

@@ -1,7 +1,4 @@
-use Rattle.pg_travel.proofs.TakenSets.{fewer}
-use Rattle.pg_journeys.specs.Known.{known}
-use Rattle.pg_journeys.specs.Journeys.{IsLeg}
-use Rattle.pg_journeys.specs.lemmas.Turns.{leg}
+use Rattle.pg_journeys.proofs.Common.{fewer, known, IsLeg, leg}
 use Rattle.pg_journeys.proofs.SiftedSets.{gather_first, gather_next, gather_all}
 use Rattle.pg_journeys.proofs.ground.Ground.steps_of.Goals as goal
 

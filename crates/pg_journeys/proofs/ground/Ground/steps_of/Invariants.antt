@@ -1,8 +1,4 @@
-use Rattle.pg_board.specs.Bits.{has}
-use Rattle.pg_board.specs.Tally.{count_below}
-use Rattle.pg_journeys.specs.Known.{known}
-use Rattle.pg_journeys.specs.Journeys.{IsLeg}
-use Rattle.pg_journeys.specs.lemmas.Turns.{leg}
+use Rattle.pg_journeys.proofs.Common.{has, count_below, known, IsLeg, leg}
 use Rattle.pg_journeys.proofs.SiftedSets.{IsGathered}
 use Rattle.pg_journeys.proofs.ground.Ground.steps_of.Given as goal
 

@@ -1,4 +1,4 @@
-use Rattle.pg_journeys.specs.lemmas.DecidingRounds.{test_is}
+use Rattle.pg_journeys.proofs.Common.{test_is}
 use Rattle.pg_journeys.proofs.journeys.JourneysBound.excludes.Goals as goal
 
 pub returns : goal.returns

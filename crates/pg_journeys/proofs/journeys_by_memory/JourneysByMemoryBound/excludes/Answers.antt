@@ -1,4 +1,4 @@
-use Rattle.pg_journeys.specs.lemmas.DecidingRounds.{test_is}
+use Rattle.pg_journeys.proofs.Common.{test_is}
 use Rattle.pg_journeys.proofs.journeys_by_memory.JourneysByMemoryBound.excludes.Goals as goal
 
 pub returns : goal.returns

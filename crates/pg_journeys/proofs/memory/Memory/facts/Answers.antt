@@ -1,4 +1,4 @@
-use Rattle.std.proofs.Common.{arith}
+use Rattle.pg_journeys.proofs.Common.{arith}
 use Rattle.pg_journeys.proofs.MemoryLemmas.{same_diagram, lent_cases, kept_cases}
 use Rattle.pg_journeys.proofs.memory.Memory.facts.Goals as goal
 

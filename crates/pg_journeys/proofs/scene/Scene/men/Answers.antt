@@ -1,6 +1,4 @@
-use Rattle.std.proofs.Common.{subst}
-use Rattle.pg_position.specs.declared.state.State.{State}
-use Rattle.pg_position.specs.Position.{PawnsClause}
+use Rattle.pg_journeys.proofs.Common.{subst, State, PawnsClause}
 use Rattle.pg_journeys.proofs.RestingLemmas.{lifted_pawns}
 use Rattle.pg_journeys.proofs.scene.Scene.men.Goals as goal
 

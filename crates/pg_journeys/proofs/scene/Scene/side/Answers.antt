@@ -1,5 +1,4 @@
-use Rattle.std.proofs.Common.{ap}
-use Rattle.pg_position.specs.declared.state.State.{State}
+use Rattle.pg_journeys.proofs.Common.{ap, State}
 use Rattle.pg_journeys.proofs.scene.Scene.side.Goals as goal
 
 pub returns-clause-seen : goal.returns-clause-seen

@@ -1,6 +1,4 @@
-use Rattle.std.proofs.Common.{sym, subst}
-use Rattle.pg_moves.specs.Left.{MovesLeft, IsPeeked}
-use Rattle.pg_moves.specs.Targets.{FreeOff}
+use Rattle.pg_moves.proofs.Common.{sym, subst, MovesLeft, IsPeeked, FreeOff}
 use Rattle.pg_moves.proofs.TurnLemmas.{ready_kept, ready_passed}
 use Rattle.pg_moves.proofs.cursor.LegalMoves.go_to.Goals as goal
 

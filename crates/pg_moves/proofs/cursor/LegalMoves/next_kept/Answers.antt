@@ -1,4 +1,4 @@
-use Rattle.pg_moves.specs.Left.{IsHandedOut}
+use Rattle.pg_moves.proofs.Common.{IsHandedOut}
 use Rattle.pg_moves.proofs.TurnLemmas.{kept_next, kept_some, kept_none}
 use Rattle.pg_moves.proofs.cursor.LegalMoves.next_kept.Goals as goal
 

@@ -1,4 +1,4 @@
-use Rattle.std.proofs.Common.{None, Some}
+use Rattle.pg_moves.proofs.Common.{None, Some}
 use Rattle.pg_moves.proofs.LeftLemmas.{done_none, man_of}
 use Rattle.pg_moves.proofs.cursor.LegalMoves.next_of_man.Goals as goal
 

@@ -1,6 +1,4 @@
-use Rattle.std.proofs.Common.{subst}
-use Rattle.pg_moves.specs.Left.{MovesLeft}
-use Rattle.pg_moves.specs.Targets.{FreeOff}
+use Rattle.pg_moves.proofs.Common.{subst, MovesLeft, FreeOff}
 use Rattle.pg_moves.proofs.TurnLemmas.{peeked_same}
 use Rattle.pg_moves.proofs.cursor.LegalMoves.peek.Goals as goal
 

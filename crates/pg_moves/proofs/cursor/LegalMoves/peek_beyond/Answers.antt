@@ -1,4 +1,4 @@
-use Rattle.std.proofs.Common.{refl}
+use Rattle.pg_moves.proofs.Common.{refl}
 use Rattle.pg_moves.proofs.LeftLemmas.{ahead_of}
 use Rattle.pg_moves.proofs.MenLemmas.{kept_there}
 use Rattle.pg_moves.proofs.TurnLemmas.{ready_kept, ready_to_come}

@@ -1,4 +1,4 @@
-use Rattle.std.proofs.Common.{arith}
+use Rattle.pg_moves.proofs.Common.{arith}
 use Rattle.pg_moves.proofs.OffLemmas.{counted_few, counted_more, inside_both}
 use Rattle.pg_moves.proofs.GuardLemmas.{men_guarded}
 use Rattle.pg_moves.proofs.leaves.Counted.count_kind.Goals as goal

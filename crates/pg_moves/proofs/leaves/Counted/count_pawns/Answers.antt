@@ -1,4 +1,4 @@
-use Rattle.std.proofs.Common.{arith}
+use Rattle.pg_moves.proofs.Common.{arith}
 use Rattle.pg_moves.proofs.OffLemmas.{counted_few, counted_more}
 use Rattle.pg_moves.proofs.QuietLemmas.{pawns_counted, quiet_inside}
 use Rattle.pg_moves.proofs.leaves.Counted.count_pawns.Goals as goal

@@ -1,4 +1,4 @@
-use Rattle.std.proofs.Common.{arith}
+use Rattle.pg_moves.proofs.Common.{arith}
 use Rattle.pg_moves.proofs.OffLemmas.{counted_few, counted_last}
 use Rattle.pg_moves.proofs.leaves.Counted.count_rest.Goals as goal
 

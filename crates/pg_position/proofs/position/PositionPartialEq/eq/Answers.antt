@@ -1,6 +1,4 @@
-use Rattle.std.proofs.Common.{sym, ◌∙◌}
-use Rattle.std.proofs.lemmas.Bool.Decides.{same_from_decides}
-use Rattle.pg_position.specs.lemmas.Equalities.{same_from_alike, alike_from_same, state_eq_decides}
+use Rattle.pg_position.proofs.Common.{sym, ◌∙◌, same_from_decides, same_from_alike, alike_from_same, state_eq_decides}
 use Rattle.pg_position.proofs.position.PositionPartialEq.eq.Goals as goal
 
 pub returns-clause-same : goal.returns-clause-same

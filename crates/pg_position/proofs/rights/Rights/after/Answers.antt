@@ -1,4 +1,4 @@
-use Rattle.std.proofs.Common.{refl}
+use Rattle.pg_position.proofs.Common.{refl}
 use Rattle.pg_position.proofs.rights.Rights.after.Goals as goal
 
 pub returns-then-touches_no_home : goal.returns-then-touches_no_home

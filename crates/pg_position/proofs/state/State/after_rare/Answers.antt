@@ -1,4 +1,4 @@
-use Rattle.std.proofs.Common.{sym, ◌∙◌}
+use Rattle.pg_position.proofs.Common.{sym, ◌∙◌}
 use Rattle.pg_position.proofs.LegalLemmas.{mover_way, mover_there, after_is}
 use Rattle.pg_position.proofs.state.State.after_rare.Goals as goal
 

@@ -1,6 +1,4 @@
-use Rattle.std.proofs.Common.{subst, sym}
-use Rattle.pg_board.specs.declared.man.Color.{Color}
-use Rattle.pg_position.specs.Squares.{HasAhead}
+use Rattle.pg_position.proofs.Common.{subst, sym, Color, HasAhead}
 use Rattle.pg_position.proofs.StepLemmas.{taken_on_board}
 use Rattle.pg_position.proofs.state.State.board_after.Goals as goal
 

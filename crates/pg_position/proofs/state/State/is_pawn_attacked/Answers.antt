@@ -1,5 +1,4 @@
-use Rattle.pg_position.specs.Future.{IsPawnAttacked}
-use Rattle.pg_position.specs.inner.Lines.{AttackedBy}
+use Rattle.pg_position.proofs.Common.{IsPawnAttacked, AttackedBy}
 use Rattle.pg_position.proofs.state.State.is_pawn_attacked.Goals as goal
 
 pub returns : goal.returns

@@ -1,4 +1,4 @@
-use Rattle.std.proofs.Common.{ap, refl, Some, ◌∙◌}
+use Rattle.pg_position.proofs.Common.{ap, refl, Some, ◌∙◌}
 use Rattle.pg_position.proofs.LegalLemmas.{passed_on_board, passed_two}
 use Rattle.pg_position.proofs.state.State.passed_by.Goals as goal
 

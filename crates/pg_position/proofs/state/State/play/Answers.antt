@@ -1,8 +1,4 @@
-use Rattle.std.proofs.Common.{◌≡◌, ◌↔◌, sym, subst}
-use Rattle.pg_position.specs.declared.state.State.{State}
-use Rattle.pg_position.specs.declared.refusals.Illegal.TheVariants.{NotAMove}
-use Rattle.pg_position.specs.Position.{IsPosition}
-use Rattle.pg_position.specs.Step.{Legal, IsCause}
+use Rattle.pg_position.proofs.Common.{◌≡◌, ◌↔◌, sym, subst, State, NotAMove, IsPosition, Legal, IsCause}
 use Rattle.pg_position.proofs.StepLemmas.{no_step, cause_refutes}
 use Rattle.pg_position.proofs.LegalLemmas.{judged_safe, judged_unsafe}
 use Rattle.pg_position.proofs.state.State.play.Goals as goal

@@ -1,7 +1,4 @@
-use Rattle.std.proofs.Common.{◌≡◌, ◌↔◌, sym, subst}
-use Rattle.pg_position.specs.declared.state.State.{State}
-use Rattle.pg_position.specs.Position.{IsPosition}
-use Rattle.pg_position.specs.Step.{Legal}
+use Rattle.pg_position.proofs.Common.{◌≡◌, ◌↔◌, sym, subst, State, IsPosition, Legal}
 use Rattle.pg_position.proofs.LegalLemmas.{judged_safe, judged_unsafe}
 use Rattle.pg_position.proofs.state.State.play_rare.Goals as goal
 

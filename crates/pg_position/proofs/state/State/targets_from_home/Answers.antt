@@ -1,4 +1,4 @@
-use Rattle.std.proofs.Common.{◌≡◌, IsTrue, false}
+use Rattle.pg_position.proofs.Common.{◌≡◌, IsTrue, false}
 use Rattle.pg_position.proofs.CastlingLemmas.{castle_set}
 use Rattle.pg_position.proofs.state.State.targets_from_home.Goals as goal
 

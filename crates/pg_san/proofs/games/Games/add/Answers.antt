@@ -1,4 +1,4 @@
-use Rattle.std.proofs.Common.{◌<◌, length, arith}
+use Rattle.pg_san.proofs.Common.{◌<◌, length, arith}
 use Rattle.pg_san.proofs.PlaceLemmas.{fresh}
 use Rattle.pg_san.proofs.games.Games.add.Goals as goal
 

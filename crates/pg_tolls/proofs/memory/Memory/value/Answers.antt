@@ -1,8 +1,5 @@
-use Rattle.std.proofs.Common.{◌≡◌, arith}
-use Rattle.std.specs.Prelude.{All}
-use Rattle.pg_tolls.specs.Stated.{stated}
-use Rattle.pg_tolls.specs.inner.Remembering.{IsOwner, IsRemembered}
-use Rattle.pg_tolls.proofs.MemoryLemmas.{same_diagram, owned, given_back, lent, kept}
+use Rattle.pg_tolls.proofs.Common.{◌≡◌, arith, All, stated, IsOwner, IsRemembered, same_diagram}
+use Rattle.pg_tolls.proofs.MemoryLemmas.{owned, given_back, lent, kept}
 use Rattle.pg_tolls.proofs.memory.Memory.value.Goals as goal
 
 pub invariant_of-self : goal.invariant_of-self

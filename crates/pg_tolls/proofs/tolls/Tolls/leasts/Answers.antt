@@ -1,6 +1,4 @@
-use Rattle.std.proofs.Common.{rules}
-use Rattle.pg_tolls.specs.Stated.{stated}
-use Rattle.pg_tolls.specs.lemmas.Soundness.{low_white, low_black}
+use Rattle.pg_tolls.proofs.Common.{rules, stated, low_white, low_black}
 use Rattle.pg_tolls.proofs.tolls.Tolls.leasts.Goals as goal
 
 pub returns-clause-asks : goal.returns-clause-asks

@@ -1,7 +1,4 @@
-use Rattle.std.proofs.Common.{ap}
-use Rattle.pg_journeys.specs.Known.{known}
-use Rattle.pg_tolls.specs.Stated.{stated}
-use Rattle.pg_tolls.specs.Charges.{AreOfWalls}
+use Rattle.pg_tolls.proofs.Common.{ap, known, stated, AreOfWalls}
 use Rattle.pg_tolls.proofs.MadeHalves.{sound_of, tight_of}
 use Rattle.pg_tolls.proofs.tolls.Tolls.new.Goals as goal
 

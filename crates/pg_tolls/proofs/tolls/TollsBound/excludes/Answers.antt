@@ -1,7 +1,5 @@
-use Rattle.std.proofs.Common.{◌&&◌, Bool, sym, ap, ◌∙◌}
-use Rattle.pg_tolls.specs.Stated.{stated}
+use Rattle.pg_tolls.proofs.Common.{◌&&◌, Bool, sym, ap, ◌∙◌, stated, test_tolls}
 use Rattle.pg_tolls.specs.lemmas.DecidingHalves.{halves_test, halves_is}
-use Rattle.pg_tolls.specs.lemmas.Soundness.{test_tolls}
 use Rattle.pg_tolls.proofs.tolls.TollsBound.excludes.Goals as goal
 
 pub returns-then-eq-clause-fixed : goal.returns-then-eq-clause-fixed

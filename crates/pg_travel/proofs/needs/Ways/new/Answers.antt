@@ -1,7 +1,4 @@
-use Rattle.std.proofs.Common.{ℕ, None, Option, refl, subst}
-use Rattle.pg_position.specs.declared.rights.Wing.TheVariants.{QueenSide}
-use Rattle.pg_travel.specs.Needs.{HeldBeside}
-use Rattle.pg_travel.specs.lemmas.Values.{sum_is_value}
+use Rattle.pg_travel.proofs.Common.{ℕ, None, Option, refl, subst, QueenSide, HeldBeside, sum_is_value}
 use Rattle.pg_travel.proofs.Within.{all_within}
 use Rattle.pg_travel.proofs.needs.Ways.new.Goals as goal
 

@@ -1,4 +1,4 @@
-use Rattle.std.proofs.Common.{arith, refl, ◌+◌, ℕ, ap}
+use Rattle.pg_travel.proofs.Common.{arith, refl, ◌+◌, ℕ, ap}
 use Rattle.pg_travel.proofs.FurtherRows.{pawn_at, piece_at}
 use Rattle.pg_travel.proofs.rows.Rows.further.Goals as goal
 

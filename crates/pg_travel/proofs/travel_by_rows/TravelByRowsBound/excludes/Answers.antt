@@ -1,5 +1,4 @@
-use Rattle.pg_board.specs.lemmas.Decisions.{answer_is}
-use Rattle.pg_travel.specs.Decided.{dec_travel}
+use Rattle.pg_travel.proofs.Common.{answer_is, dec_travel}
 use Rattle.pg_travel.proofs.travel_by_rows.TravelByRowsBound.excludes.Goals as goal
 
 pub returns : goal.returns

@@ -1,7 +1,4 @@
-use Rattle.std.proofs.Common.{true, refl}
-use Rattle.pg_board.specs.lemmas.Decisions.{answer_is}
-use Rattle.pg_travel.specs.Decided.{dec_travel}
-use Rattle.pg_travel.specs.Needs.{TravelHolds}
+use Rattle.pg_travel.proofs.Common.{true, refl, answer_is, dec_travel, TravelHolds}
 use Rattle.pg_travel.proofs.travel_by_rows.TravelByRowsBound.excludes_after.Goals as goal
 
 pub returns-then-far_off_after : goal.returns-then-far_off_after
